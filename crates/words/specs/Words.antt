@@ -29,9 +29,9 @@ highOf w = w / 256
 unfoldable pub word : ℕ → ℕ → ℕ
 word l h = l % 256 + h * 256
 
--- a word with another low byte
+-- a word with another low byte; of its second argument only the low byte counts
 unfoldable pub lowSet : ℕ → ℕ → ℕ
-lowSet w b = w / 256 * 256 + b
+lowSet w b = w / 256 * 256 + b % 256
 
 -- the halves changed over
 unfoldable pub swapped : ℕ → ℕ

@@ -1,3 +1,4 @@
+use native.Mathlib.Omega.{arith}
 use borrow.Author.Needs.{needs}
 use Rattle.words.specs.Words.{lowSet}
 use Rattle.words.proofs.with_low.Statement.{statement}
@@ -11,7 +12,7 @@ add-result c = search needs
 
 returns : tie.Need-returns
 unfolding lowSet
-returns c = search needs
+returns c = omega arith
 
 pub with-low-spec : {M : Type 1} → statement M
 with-low-spec = tie.close (tie.spec mul-result add-result returns)

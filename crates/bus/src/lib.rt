@@ -1,0 +1,1 @@
+// What a cycle asks of the bus.

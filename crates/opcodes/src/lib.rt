@@ -1,0 +1,2 @@
+// The opcode list of document 01: which bytes are listed, and with what shape.
+pub mod types;

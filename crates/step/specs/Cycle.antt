@@ -1,0 +1,44 @@
+-- A cycle, for any record whatever: the request that it makes and, for any answered byte, the record after; or the refusal.
+-- The refusals come in document 01's order: 4, then 5 and 6 of a held opcode, last 5 of a fetched byte.
+use Prim.Native.Nat.{ℕ}
+use mathlib.Core.Bool.{Bool, true, false}
+use Rattle.words.specs.Words.{pick, inc}
+use Rattle.cpu.specs.Record.{wellFormed, midOf, regsOf, underWay}
+use Rattle.cpu.specs.declared.types.Record.{Record}
+use Rattle.cpu.specs.declared.types.Kind.the-variants as kind
+use Rattle.cpu.specs.declared.types.Refusal.the-variants.{Malformed, Unlisted}
+use Rattle.cpu.specs.declared.types.Asked.{Asked}
+use Rattle.cpu.specs.declared.types.Asked.the-variants.{Ask, No}
+use Rattle.cpu.specs.declared.types.Answer.{Answer}
+use Rattle.cpu.specs.declared.types.Answer.the-variants.{Next, Refused}
+use Rattle.opcodes.specs.Opcodes.{decodeOf, isListed}
+use Rattle.opcodes.specs.declared.types.Op.{Op}
+use Rattle.cycles.specs.Cycles.{heldMicro}
+use Rattle.cycles.specs.declared.types.Micro.{Micro}
+use Rattle.cycles.specs.declared.types.Micro.the-variants.{Refuse, Fetch, Cycle}
+use Rattle.bus.specs.Bus.{reads, here, askOf}
+use Rattle.act.specs.Act.{past, actOf}
+
+-- what the next cycle does
+unfoldable pub microOf : Record → Micro
+microOf r = pick (wellFormed r) (pick (r .held) (heldMicro (decodeOf (r .ir)) (r .flags) (r .d) (r .tcu)) Fetch) (Refuse Malformed)
+
+-- the opcode's byte: the first cycle of its instruction comes next
+abbrev pub begun : Op → Record → ℕ → Answer
+begun o r b = pick (isListed o) (Next (underWay b 1 (r .pbr) (regsOf r) (past (midOf r)))) (Refused Unlisted)
+
+abbrev pub askedBy : Micro → Record → Asked
+askedBy (Refuse n) r = No n
+askedBy Fetch r = Ask (reads kind.Opcode (here r))
+askedBy (Cycle q k) r = Ask (askOf q r)
+
+abbrev pub answeredBy : Micro → Record → ℕ → Answer
+answeredBy (Refuse n) r b = Refused n
+answeredBy Fetch r b = begun (decodeOf b) r b
+answeredBy (Cycle q k) r b = Next (actOf k r b)
+
+unfoldable pub requestOf : Record → Asked
+requestOf r = askedBy (microOf r) r
+
+unfoldable pub answerOf : Record → ℕ → Answer
+answerOf r b = answeredBy (microOf r) r b
