@@ -1,0 +1,318 @@
+// The opcode byte.
+ghost use mathlib.Core.Path.{_≡_};
+ghost use Rattle.opcodes.specs.Opcodes.{oneOf, columnOf, operationOf, bit5, indexOf, conditionOf, decodeOf, isListed};
+use crate::types::Op;
+use crate::types::Shape;
+use alu::types::Alu;
+use alu::types::Shift;
+use cpu::types::Cond;
+use cpu::types::One;
+use cpu::types::Reg;
+use cpu::types::Source;
+
+// Loads and stores of Y, A and X stand side by side.
+fn column(op: u8) -> Reg
+    ensures { λ r. ⌜ r ≡ columnOf op ⌝ }
+{
+    if op % 4 == 0 {
+        Reg::Y
+    } else {
+        if op % 4 == 1 { Reg::A } else { Reg::X }
+    }
+}
+
+// Bits 5 to 7 choose an operation.
+fn operation(op: u8) -> Alu
+    ensures { λ r. ⌜ r ≡ operationOf op ⌝ }
+{
+    let row = op / 32;
+    match row {
+        0 => Alu::Ora,
+        1 => Alu::And,
+        2 => Alu::Eor,
+        3 => Alu::Adc,
+        5 => Alu::Load,
+        6 => Alu::Cmp,
+        _ => Alu::Sbc,
+    }
+}
+
+// CPY is a row above CPX.
+fn index(op: u8) -> Reg
+    ensures { λ r. ⌜ r ≡ indexOf op ⌝ }
+{
+    if op / 32 % 2 == 1 { Reg::X } else { Reg::Y }
+}
+
+// Bits 6 and 7 choose a branch's flag, bit 5 its value.
+fn condition(op: u8) -> Cond
+    ensures { λ r. ⌜ r ≡ conditionOf op ⌝ }
+{
+    let to = op / 32 % 2 == 1;
+    let flag = op / 64;
+    match flag {
+        0 => Cond::Negative(to),
+        1 => Cond::Overflow(to),
+        2 => Cond::Carry(to),
+        _ => Cond::Zero(to),
+    }
+}
+
+// An instruction of one byte; NOP for a byte that is none.
+fn one_byte(op: u8) -> One
+    ensures { λ r. ⌜ r ≡ oneOf op ⌝ }
+{
+    match op {
+        0x0A => One::Accumulator(Shift::Asl),
+        0x18 => One::Carry(false),
+        0x1A => One::Accumulator(Shift::Inc),
+        0x1B => One::Tcs,
+        0x2A => One::Accumulator(Shift::Rol),
+        0x38 => One::Carry(true),
+        0x3A => One::Accumulator(Shift::Dec),
+        0x3B => One::Tsc,
+        0x4A => One::Accumulator(Shift::Lsr),
+        0x58 => One::Interrupt(false),
+        0x5B => One::Tcd,
+        0x6A => One::Accumulator(Shift::Ror),
+        0x78 => One::Interrupt(true),
+        0x7B => One::Tdc,
+        0x88 => One::Index(Reg::Y, false),
+        0x8A => One::Transfer(Reg::X, Reg::A),
+        0x98 => One::Transfer(Reg::Y, Reg::A),
+        0x9A => One::Txs,
+        0x9B => One::Transfer(Reg::X, Reg::Y),
+        0xA8 => One::Transfer(Reg::A, Reg::Y),
+        0xAA => One::Transfer(Reg::A, Reg::X),
+        0xB8 => One::Clv,
+        0xBA => One::Tsx,
+        0xBB => One::Transfer(Reg::Y, Reg::X),
+        0xC8 => One::Index(Reg::Y, true),
+        0xCA => One::Index(Reg::X, false),
+        0xD8 => One::Decimal(false),
+        0xE8 => One::Index(Reg::X, true),
+        0xEA => One::Nop,
+        0xF8 => One::Decimal(true),
+        0xFB => One::Xce,
+        _ => One::Nop,
+    }
+}
+
+// What a byte is as an opcode; unlisted ones are refused with 5.
+pub fn decode(op: u8) -> Op
+    ensures { λ r. ⌜ r ≡ decodeOf op ⌝ }
+{
+    match op {
+        0x09 | 0x29 | 0x49 | 0x69 | 0xA9 | 0xC9 | 0xE9 => Op::Listed(Shape::Immediate(
+            operation(op),
+            Reg::A,
+        )),
+        0x05 | 0x25 | 0x45 | 0x65 | 0xC5 | 0xE5 => Op::Listed(Shape::Direct(operation(op), Reg::A)),
+        0x0D | 0x2D | 0x4D | 0x6D | 0xCD | 0xED => Op::Listed(Shape::Absolute(
+            operation(op),
+            Reg::A,
+        )),
+        0x24 => Op::Listed(Shape::Direct(Alu::Bit, Reg::A)),
+        0x2C => Op::Listed(Shape::Absolute(Alu::Bit, Reg::A)),
+        0x89 => Op::Listed(Shape::Immediate(Alu::BitImmediate, Reg::A)),
+        0xA0 | 0xA2 => Op::Listed(Shape::Immediate(Alu::Load, column(op))),
+        0xA4..=0xA6 => Op::Listed(Shape::Direct(Alu::Load, column(op))),
+        0xAC..=0xAE => Op::Listed(Shape::Absolute(Alu::Load, column(op))),
+        0xC0 | 0xE0 => Op::Listed(Shape::Immediate(Alu::Cmp, index(op))),
+        0xC4 | 0xE4 => Op::Listed(Shape::Direct(Alu::Cmp, index(op))),
+        0xCC | 0xEC => Op::Listed(Shape::Absolute(Alu::Cmp, index(op))),
+        0x84..=0x86 => Op::Listed(Shape::StoreDirect(Source::Register(column(op)))),
+        0x8C..=0x8E => Op::Listed(Shape::StoreAbsolute(Source::Register(column(op)))),
+        0x64 => Op::Listed(Shape::StoreDirect(Source::Zero)),
+        0x9C => Op::Listed(Shape::StoreAbsolute(Source::Zero)),
+        0xEB => Op::Listed(Shape::Xba),
+        0xC2 => Op::Listed(Shape::Mask(false)),
+        0xE2 => Op::Listed(Shape::Mask(true)),
+        0x42 => Op::Listed(Shape::Wdm),
+        0x54 => Op::Listed(Shape::Move(true)),
+        0x44 => Op::Listed(Shape::Move(false)),
+        0x10 | 0x30 | 0x50 | 0x70 | 0x90 | 0xB0 | 0xD0 | 0xF0 => Op::Listed(Shape::Branch(condition(
+            op,
+        ))),
+        0x80 => Op::Listed(Shape::Branch(Cond::Always)),
+        0x82 => Op::Listed(Shape::BranchLong),
+        0x4C => Op::Listed(Shape::Jump),
+        0x6C => Op::Listed(Shape::JumpIndirect),
+        0x7C => Op::Listed(Shape::JumpIndexed),
+        0x5C => Op::Listed(Shape::JumpLong),
+        0xDC => Op::Listed(Shape::JumpIndirectLong),
+        0x20 => Op::Listed(Shape::Call),
+        0xFC => Op::Listed(Shape::CallIndexed),
+        0x22 => Op::Listed(Shape::CallLong),
+        0x60 => Op::Listed(Shape::Return),
+        0x6B => Op::Listed(Shape::ReturnLong),
+        0x48 => Op::Listed(Shape::Push(Source::Register(Reg::A))),
+        0xDA => Op::Listed(Shape::Push(Source::Register(Reg::X))),
+        0x5A => Op::Listed(Shape::Push(Source::Register(Reg::Y))),
+        0x08 => Op::Listed(Shape::Push(Source::P)),
+        0x8B => Op::Listed(Shape::Push(Source::Dbr)),
+        0x0B => Op::Listed(Shape::Push(Source::D)),
+        0x4B => Op::Listed(Shape::Push(Source::Pbr)),
+        0x68 => Op::Listed(Shape::Pull(Reg::A)),
+        0xFA => Op::Listed(Shape::Pull(Reg::X)),
+        0x7A => Op::Listed(Shape::Pull(Reg::Y)),
+        0x28 => Op::Listed(Shape::PullP),
+        0xAB => Op::Listed(Shape::PullB),
+        0x2B => Op::Listed(Shape::PullD),
+        0xF4 => Op::Listed(Shape::Pea),
+        0xD4 => Op::Listed(Shape::Pei),
+        0x62 => Op::Listed(Shape::Per),
+        0x0A
+        | 0x18
+        | 0x1A
+        | 0x2A
+        | 0x38
+        | 0x3A
+        | 0x4A
+        | 0x58
+        | 0x6A
+        | 0x78
+        | 0x88
+        | 0x8A
+        | 0x98
+        | 0x9A
+        | 0xA8
+        | 0xAA
+        | 0xB8
+        | 0xBA
+        | 0xC8
+        | 0xCA
+        | 0xD8
+        | 0xE8
+        | 0xEA
+        | 0xF8 => Op::Listed(Shape::Implied(one_byte(op))),
+        0x1B | 0x3B | 0x5B | 0x7B | 0x9B | 0xBB | 0xFB => Op::Listed(Shape::Implied(one_byte(op))),
+        _ => Op::Unlisted,
+    }
+}
+
+// Whether a byte is listed, for the fetch. `decode` would do, but a second call of it keeps both from being inlined.
+pub fn listed(op: u8) -> bool
+    ensures { λ r. ⌜ r ≡ isListed (decodeOf op) ⌝ }
+{
+    match op {
+        0x05 => true,
+        0x08 => true,
+        0x09 => true,
+        0x0A => true,
+        0x0B => true,
+        0x0D => true,
+        0x10 => true,
+        0x18 => true,
+        0x1A => true,
+        0x1B => true,
+        0x20 => true,
+        0x22 => true,
+        0x24 => true,
+        0x25 => true,
+        0x28 => true,
+        0x29 => true,
+        0x2A => true,
+        0x2B => true,
+        0x2C => true,
+        0x2D => true,
+        0x30 => true,
+        0x38 => true,
+        0x3A => true,
+        0x3B => true,
+        0x42 => true,
+        0x44 => true,
+        0x45 => true,
+        0x48 => true,
+        0x49 => true,
+        0x4A => true,
+        0x4B => true,
+        0x4C => true,
+        0x4D => true,
+        0x50 => true,
+        0x54 => true,
+        0x58 => true,
+        0x5A => true,
+        0x5B => true,
+        0x5C => true,
+        0x60 => true,
+        0x62 => true,
+        0x64 => true,
+        0x65 => true,
+        0x68 => true,
+        0x69 => true,
+        0x6A => true,
+        0x6B => true,
+        0x6C => true,
+        0x6D => true,
+        0x70 => true,
+        0x78 => true,
+        0x7A => true,
+        0x7B => true,
+        0x7C => true,
+        0x80 => true,
+        0x82 => true,
+        0x84 => true,
+        0x85 => true,
+        0x86 => true,
+        0x88 => true,
+        0x89 => true,
+        0x8A => true,
+        0x8B => true,
+        0x8C => true,
+        0x8D => true,
+        0x8E => true,
+        0x90 => true,
+        0x98 => true,
+        0x9A => true,
+        0x9B => true,
+        0x9C => true,
+        0xA0 => true,
+        0xA2 => true,
+        0xA4 => true,
+        0xA5 => true,
+        0xA6 => true,
+        0xA8 => true,
+        0xA9 => true,
+        0xAA => true,
+        0xAB => true,
+        0xAC => true,
+        0xAD => true,
+        0xAE => true,
+        0xB0 => true,
+        0xB8 => true,
+        0xBA => true,
+        0xBB => true,
+        0xC0 => true,
+        0xC2 => true,
+        0xC4 => true,
+        0xC5 => true,
+        0xC8 => true,
+        0xC9 => true,
+        0xCA => true,
+        0xCC => true,
+        0xCD => true,
+        0xD0 => true,
+        0xD4 => true,
+        0xD8 => true,
+        0xDA => true,
+        0xDC => true,
+        0xE0 => true,
+        0xE2 => true,
+        0xE4 => true,
+        0xE5 => true,
+        0xE8 => true,
+        0xE9 => true,
+        0xEA => true,
+        0xEB => true,
+        0xEC => true,
+        0xED => true,
+        0xF0 => true,
+        0xF4 => true,
+        0xF8 => true,
+        0xFA => true,
+        0xFB => true,
+        0xFC => true,
+        _ => false,
+    }
+}
