@@ -2,7 +2,7 @@
 use Prim.Native.Nat.{ℕ, zero, suc, _≤_}
 use native.Mathlib.Omega.{arith}
 use mathlib.Core.Path.{_≡_, refl, ap, sym, subst, _∙_}
-use mathlib.Core.Logic.{_↔_}
+use mathlib.Core.Logic.{_↔_, _⊎_, inl, inr}
 use mathlib.Core.Bool.{Bool, true, false, not, _&&_}
 use mathlib.Core.List.{List, [], _∷_}
 use mathlib.Core.Option.{Option, none as nothing, some}
@@ -14,7 +14,7 @@ use Rattle.cpu.specs.Record.{numberOf, wellFormed}
 use Rattle.cpu.specs.declared.types.Record.{Record}
 use Rattle.cpu.specs.declared.types.Source.the-variants as of
 use Rattle.cpu.specs.declared.types.Refusal.{Refusal}
-use Rattle.cpu.specs.declared.types.Refusal.the-variants.{Malformed, Unlisted, NoCycle}
+use Rattle.cpu.specs.declared.types.Refusal.the-variants.{Memory, Budget, Room, Malformed, Unlisted, NoCycle, Bank}
 use Rattle.cpu.specs.declared.types.Asked.{Asked}
 use Rattle.cpu.specs.declared.types.Asked.the-variants.{Ask, No}
 use Rattle.cpu.specs.declared.types.Answer.{Answer}
@@ -29,7 +29,7 @@ use Rattle.cycles.specs.declared.types.Micro.{Micro}
 use Rattle.cycles.specs.declared.types.Micro.the-variants.{Refuse, Fetch, Cycle}
 use Rattle.step.specs.Cycle.{microOf, begun, askedBy, answeredBy, requestOf, answerOf}
 use Rattle.sheet.specs.Counts.{countOf}
-use Rattle.sheet.specs.Exists.{firstOf, existing, heldRefusal, refusalOf, fetchRefusal, orElse, refusalAt, noOf, refusedOf}
+use Rattle.sheet.specs.Exists.{firstOf, existing, Given, GivenLast, heldRefusal, refusalOf, fetchRefusal, orElse, refusalAt, noOf, refusedOf}
 use Rattle.sheet.proofs.Walk.{false-true}
 
 -- ---- the refusal that a micro-operation is, if it is one
@@ -242,3 +242,99 @@ answer-numbers r b n e =
     (either-numbered (refusalOf r) (fetchRefusal (r .held) (decodeOf b))
     (refusal-numbered (wellFormed r) (r .held) (decodeOf (r .ir)) (r .flags) (r .d) (r .tcu))
     (fetch-numbered (r .held) (decodeOf b)))
+
+-- ---- each refusal by itself
+no-is : (a : Asked) (n : Refusal) → noOf a ≡ some n → a ≡ No n
+no-is (Ask q) n e = cc
+no-is (No m) n e = cc
+
+module _ (r : Record) where
+  abbrev Told : Option Refusal → Type 0
+  Told nothing = Unit
+  Told (some n) = Given n r
+
+  given-cycle : (s : Shape) (t : Bool) → wellFormed r ≡ true → r .held ≡ true → decodeOf (r .ir) ≡ op.Listed s
+      → existing s (wideOf s (r .flags .memsel) (r .flags .indexsel)) (unaligned (r .d)) (r .flags .emulation) (r .tcu) ≡ t
+      → Told (pick t nothing (some NoCycle))
+  given-cycle s true w h o t = tt
+  given-cycle s false w h o t = (w, h, (s, (o, t)))
+
+  told : Told (refusalOf r)
+  unfolding refusalOf
+  told = go (wellFormed r) (r .held) (decodeOf (r .ir)) refl refl refl
+    where
+      go : (w h : Bool) (o : Op) → wellFormed r ≡ w → r .held ≡ h → decodeOf (r .ir) ≡ o
+          → Told (pick w (pick h (heldRefusal o (r .flags) (r .d) (r .tcu)) nothing) (some Malformed))
+      go false h o i j k = i
+      go true false o i j k = tt
+      go true true op.Unlisted i j k = (i, j, k)
+      go true true (op.Listed s) i j k = given-cycle s _ i j k refl
+
+  refusal-given : (n : Refusal) → Given n r → refusalOf r ≡ some n
+  unfolding refusalOf
+  refusal-given Malformed w = rw w
+  refusal-given Unlisted a = rw (a .0, a .1, a .2)
+  refusal-given NoCycle a = rw (a .0, a .1, a .2 .1 .0, a .2 .1 .1)
+  refusal-given Memory a = absurd a
+  refusal-given Budget a = absurd a
+  refusal-given Room a = absurd a
+  refusal-given Bank a = absurd a
+
+  -- Each refusal of a request is given exactly when document 01's table says.
+  pub refused-exactly : (n : Refusal) → (requestOf r ≡ No n) ↔ Given n r
+  refused-exactly n = (
+    λ e. subst Told (sym (request-refuses r) ∙ ap noOf e) told,
+    λ a. no-is (requestOf r) n (request-refuses r ∙ refusal-given n a),
+  )
+
+refused-is : (a : Answer) (n : Refusal) → refusedOf a ≡ some n → a ≡ Refused n
+refused-is (Next r) n e = cc
+refused-is (Refused m) n e = cc
+
+module _ (r : Record) (b : ℕ) where
+  abbrev ToldAt : Option Refusal → Type 0
+  ToldAt nothing = Unit
+  ToldAt (some n) = Given n r ⊎ GivenLast n r b
+
+  told-first : (o q : Option Refusal) → Told r o → (o ≡ nothing → ToldAt q) → ToldAt (orElse o q)
+  told-first nothing q h k = k refl
+  told-first (some n) q h k = inl h
+
+  well-asked : refusalOf r ≡ nothing → wellFormed r ≡ true
+  unfolding refusalOf
+  well-asked e = go (wellFormed r) refl
+    where
+      go : (t : Bool) → wellFormed r ≡ t → wellFormed r ≡ true
+      go true i = i
+      go false i = let z : some Malformed ≡ nothing = rw i at e in cc
+
+  told-last : (h : Bool) (o : Op) → wellFormed r ≡ true → r .held ≡ h → decodeOf b ≡ o → ToldAt (fetchRefusal h o)
+  told-last true o w i k = tt
+  told-last false op.Unlisted w i k = inr (w, i, k)
+  told-last false (op.Listed s) w i k = tt
+
+  told-at : ToldAt (refusalAt r b)
+  unfolding refusalAt
+  told-at = told-first (refusalOf r) (fetchRefusal (r .held) (decodeOf b)) (told r) (λ e. told-last (r .held) (decodeOf b) (well-asked e) refl refl)
+
+  refusal-last : (n : Refusal) → GivenLast n r b → refusalAt r b ≡ some n
+  unfolding refusalAt refusalOf
+  refusal-last Unlisted a = rw (a .0, a .1, a .2)
+  refusal-last Malformed a = absurd a
+  refusal-last NoCycle a = absurd a
+  refusal-last Memory a = absurd a
+  refusal-last Budget a = absurd a
+  refusal-last Room a = absurd a
+  refusal-last Bank a = absurd a
+
+  refusal-at : (n : Refusal) → Given n r ⊎ GivenLast n r b → refusalAt r b ≡ some n
+  unfolding refusalAt
+  refusal-at n (inl a) = rw (refusal-given r n a)
+  refusal-at n (inr a) = refusal-last n a
+
+  -- Each refusal of an answer likewise: as of the request, or last by 5 for a fetched byte.
+  pub answered-exactly : (n : Refusal) → (answerOf r b ≡ Refused n) ↔ (Given n r ⊎ GivenLast n r b)
+  answered-exactly n = (
+    λ e. subst ToldAt (sym (answer-refuses r b) ∙ ap refusedOf e) told-at,
+    λ a. refused-is (answerOf r b) n (answer-refuses r b ∙ refusal-at n a),
+  )

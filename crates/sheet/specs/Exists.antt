@@ -1,5 +1,6 @@
 -- The refusals of a cycle in document 01's words, written from its table of counts and not from the lists of cycles.
 use Prim.Native.Nat.{ℕ}
+use mathlib.Core.Path.{_≡_}
 use mathlib.Core.Bool.{Bool, true, false, _&&_}
 use mathlib.Core.Option.{Option, none as nothing, some}
 use lib.Dec.{leb, ltb}
@@ -8,7 +9,7 @@ use Rattle.flags.specs.declared.Flags.{Flags}
 use Rattle.cpu.specs.Record.{wellFormed}
 use Rattle.cpu.specs.declared.types.Record.{Record}
 use Rattle.cpu.specs.declared.types.Refusal.{Refusal}
-use Rattle.cpu.specs.declared.types.Refusal.the-variants.{Malformed, Unlisted, NoCycle}
+use Rattle.cpu.specs.declared.types.Refusal.the-variants.{Memory, Budget, Room, Malformed, Unlisted, NoCycle, Bank}
 use Rattle.cpu.specs.declared.types.Asked.{Asked}
 use Rattle.cpu.specs.declared.types.Asked.the-variants.{Ask, No}
 use Rattle.cpu.specs.declared.types.Answer.{Answer}
@@ -59,7 +60,27 @@ firstOf (Branch k) = 1
 abbrev pub existing : Shape → (w d e : Bool) → (tcu : ℕ) → Bool
 existing s w d e tcu = leb (firstOf s) tcu && ltb tcu (countOf s w d e true true)
 
--- ---- the refusal of a record's next cycle, if there is one: 4, then 5 and 6 for a held opcode
+-- ---- document 01's table of refusals, for a record's next cycle; 1, 2, 3 and 7 are given by runs alone
+abbrev pub Given : Refusal → Record → Type 0
+Given Malformed r = wellFormed r ≡ false
+Given Unlisted r = (wellFormed r ≡ true) × (r .held ≡ true) × (decodeOf (r .ir) ≡ op.Unlisted)
+Given NoCycle r = (wellFormed r ≡ true) × (r .held ≡ true) × ((s : Shape) × ((decodeOf (r .ir) ≡ op.Listed s) × (existing s (wideOf s (r .flags .memsel) (r .flags .indexsel)) (unaligned (r .d)) (r .flags .emulation) (r .tcu) ≡ false)))
+Given Memory r = ⊥
+Given Budget r = ⊥
+Given Room r = ⊥
+Given Bank r = ⊥
+
+-- and last, once the byte is answered: 5 for a fetched one
+abbrev pub GivenLast : Refusal → Record → (b : ℕ) → Type 0
+GivenLast Unlisted r b = (wellFormed r ≡ true) × (r .held ≡ false) × (decodeOf b ≡ op.Unlisted)
+GivenLast Malformed r b = ⊥
+GivenLast NoCycle r b = ⊥
+GivenLast Memory r b = ⊥
+GivenLast Budget r b = ⊥
+GivenLast Room r b = ⊥
+GivenLast Bank r b = ⊥
+
+-- ---- the same in its order, as the one refusal if there is one: 4, then 5 and 6 for a held opcode
 abbrev pub heldRefusal : Op → Flags → (d tcu : ℕ) → Option Refusal
 heldRefusal op.Unlisted f d tcu = some Unlisted
 heldRefusal (op.Listed s) f d tcu = pick (existing s (wideOf s (f .memsel) (f .indexsel)) (unaligned d) (f .emulation) tcu) nothing (some NoCycle)
