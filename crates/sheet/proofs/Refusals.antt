@@ -29,7 +29,7 @@ use Rattle.cycles.specs.declared.types.Micro.{Micro}
 use Rattle.cycles.specs.declared.types.Micro.the-variants.{Refuse, Fetch, Cycle}
 use Rattle.step.specs.Cycle.{microOf, begun, askedBy, answeredBy, requestOf, answerOf}
 use Rattle.sheet.specs.Counts.{countOf}
-use Rattle.sheet.specs.Exists.{firstOf, existing, Given, GivenLast, heldRefusal, refusalOf, fetchRefusal, orElse, refusalAt, noOf, refusedOf}
+use Rattle.sheet.specs.Exists.{firstOf, existing, hasCycle, Given, GivenLast, heldRefusal, refusalOf, fetchRefusal, orElse, refusalAt, noOf, refusedOf}
 use Rattle.sheet.proofs.Walk.{false-true}
 
 -- ---- the refusal that a micro-operation is, if it is one
@@ -216,8 +216,7 @@ refusal-numbered : (w h : Bool) (o : Op) (f : Flags) (d tcu : ℕ) → Numbered 
 refusal-numbered false h o f d tcu = omega arith
 refusal-numbered true false o f d tcu = tt
 refusal-numbered true true op.Unlisted f d tcu = omega arith
-refusal-numbered true true (op.Listed s) f d tcu =
-    exists-numbered (existing s (wideOf s (f .memsel) (f .indexsel)) (unaligned d) (f .emulation) tcu)
+refusal-numbered true true (op.Listed s) f d tcu = exists-numbered (hasCycle s f d tcu)
 
 fetch-numbered : (h : Bool) (o : Op) → Numbered (fetchRefusal h o)
 fetch-numbered true o = tt
@@ -254,8 +253,7 @@ module _ (r : Record) where
   Told (some n) = Given n r
 
   given-cycle : (s : Shape) (t : Bool) → wellFormed r ≡ true → r .held ≡ true → decodeOf (r .ir) ≡ op.Listed s
-      → existing s (wideOf s (r .flags .memsel) (r .flags .indexsel)) (unaligned (r .d)) (r .flags .emulation) (r .tcu) ≡ t
-      → Told (pick t nothing (some NoCycle))
+      → hasCycle s (r .flags) (r .d) (r .tcu) ≡ t → Told (pick t nothing (some NoCycle))
   given-cycle s true w h o t = tt
   given-cycle s false w h o t = (w, h, (s, (o, t)))
 

@@ -60,11 +60,14 @@ firstOf (Branch k) = 1
 abbrev pub existing : Shape → (w d e : Bool) → (tcu : ℕ) → Bool
 existing s w d e tcu = leb (firstOf s) tcu && ltb tcu (countOf s w d e true true)
 
+abbrev pub hasCycle : Shape → Flags → (d tcu : ℕ) → Bool
+hasCycle s f d tcu = existing s (wideOf s (f .memsel) (f .indexsel)) (unaligned d) (f .emulation) tcu
+
 -- ---- document 01's table of refusals, for a record's next cycle; 1, 2, 3 and 7 are given by runs alone
 abbrev pub Given : Refusal → Record → Type 0
 Given Malformed r = wellFormed r ≡ false
 Given Unlisted r = (wellFormed r ≡ true) × (r .held ≡ true) × (decodeOf (r .ir) ≡ op.Unlisted)
-Given NoCycle r = (wellFormed r ≡ true) × (r .held ≡ true) × ((s : Shape) × ((decodeOf (r .ir) ≡ op.Listed s) × (existing s (wideOf s (r .flags .memsel) (r .flags .indexsel)) (unaligned (r .d)) (r .flags .emulation) (r .tcu) ≡ false)))
+Given NoCycle r = (wellFormed r ≡ true) × (r .held ≡ true) × ((s : Shape) × ((decodeOf (r .ir) ≡ op.Listed s) × (hasCycle s (r .flags) (r .d) (r .tcu) ≡ false)))
 Given Memory r = ⊥
 Given Budget r = ⊥
 Given Room r = ⊥
@@ -83,7 +86,7 @@ GivenLast Bank r b = ⊥
 -- ---- the same in its order, as the one refusal if there is one: 4, then 5 and 6 for a held opcode
 abbrev pub heldRefusal : Op → Flags → (d tcu : ℕ) → Option Refusal
 heldRefusal op.Unlisted f d tcu = some Unlisted
-heldRefusal (op.Listed s) f d tcu = pick (existing s (wideOf s (f .memsel) (f .indexsel)) (unaligned d) (f .emulation) tcu) nothing (some NoCycle)
+heldRefusal (op.Listed s) f d tcu = pick (hasCycle s f d tcu) nothing (some NoCycle)
 
 unfoldable pub refusalOf : Record → Option Refusal
 refusalOf r = pick (wellFormed r) (pick (r .held) (heldRefusal (decodeOf (r .ir)) (r .flags) (r .d) (r .tcu)) nothing) (some Malformed)
