@@ -22,7 +22,7 @@ use Rattle.opcodes.specs.declared.types.Op.the-variants.{Listed}
 use Rattle.opcodes.specs.declared.types.Shape.the-variants.{Move}
 use Rattle.sheet.specs.Run.{Ran, run}
 use Rattle.sheet.specs.Sheet.{sheet, row, instruction}
-use Rattle.sheet.specs.Moves.{goOn, runMove, indexAfter, xAfter, yAfter, seven, sevens, wholeMove}
+use Rattle.sheet.specs.Moves.{goOn, others, runMove, indexAfter, moved, xAfter, yAfter, seven, sevens, wholeMove}
 use Rattle.sheet.proofs.Walk.{and-left, and-right, false-true}
 use Rattle.sheet.proofs.Demand2.{demand-2, instead, between-bytes}
 use Rattle.sheet.proofs.Kept.{well-ended}
@@ -109,26 +109,8 @@ module _ (ups : Bool) (ir : ℕ) where
         index-twice (r .flags .indexsel) (stepped ups (r .y)),
       )
 
-  abbrev done : Record → (bank : ℕ) → Record
-  done r bank = record {
-    a = 0xFFFF;
-    x = index (r .flags .indexsel) (stepped ups (r .x));
-    y = index (r .flags .indexsel) (stepped ups (r .y));
-    s = r .s;
-    d = r .d;
-    pc = up (r .pc) 3;
-    pbr = r .pbr;
-    dbr = bank;
-    flags = r .flags;
-    held = false;
-    ir = 0;
-    tcu = 0;
-    tempaddr = 0;
-    tempdata = 0;
-    tempbank = 0;
-  }
-
-  ended-done : (r : Record) (bank : ℕ) → Tidy r → r .a ≡ 0 → ended ir false (r .pbr) (up (r .pc) 3) (r .s) bank (moves ups (regsOf r)) ≡ done r bank
+  ended-done : (r : Record) (bank : ℕ) → Tidy r → r .a ≡ 0
+      → ended ir false (r .pbr) (up (r .pc) 3) (r .s) bank (moves ups (regsOf r)) ≡ moved r (xAfter r ups 1) (yAfter r ups 1) bank
   unfolding ended moves dec
   ended-done r bank t e =
       rw (
@@ -148,7 +130,7 @@ module _ (ups : Bool) (ir : ℕ) where
   byte-more r b m t e small =
       rw (ap (λ (n : ℕ). eqb (dec n) 0xFFFF) e ∙ more-left m small) (ap {B = Answer} Next (ended-between r m (b 1) t e small))
 
-  byte-last : (r : Record) (b : ℕ → ℕ) → Tidy r → r .a ≡ 0 → byteRow r b .out ≡ Next (done r (b 1))
+  byte-last : (r : Record) (b : ℕ → ℕ) → Tidy r → r .a ≡ 0 → byteRow r b .out ≡ Next (moved r (xAfter r ups 1) (yAfter r ups 1) (b 1))
   unfolding dec
   byte-last r b t e = rw (ap (λ (n : ℕ). eqb (dec n) 0xFFFF) e) (ap {B = Answer} Next (ended-done r (b 1) t e))
 
@@ -161,46 +143,27 @@ module _ (ups : Bool) (ir : ℕ) (r : Record) (m bank : ℕ) (b : ℕ → ℕ �
   index-next narrow v zero = refl
   index-next narrow v (suc i) = ap (λ (u : ℕ). index narrow (stepped ups u)) (index-next narrow v i)
 
-  seven-next : (i : ℕ) → seven next ups (λ j. b (suc j)) i ≡ seven r ups b (suc i)
+  seven-next : (i : ℕ) → seven next ups (others b) i ≡ seven r ups b (suc i)
   seven-next i = rw (index-next (r .flags .indexsel) (r .x) i, index-next (r .flags .indexsel) (r .y) i)
 
-  sevens-next : (i n : ℕ) → sevens next ups (λ j. b (suc j)) i n ≡ sevens r ups b (suc i) n
+  sevens-next : (i n : ℕ) → sevens next ups (others b) i n ≡ sevens r ups b (suc i) n
   sevens-next i zero = refl
   sevens-next i (suc n) =
-      ap (λ (q : List Request). q ++ sevens next ups (λ j. b (suc j)) (suc i) n) (seven-next i)
+      ap (λ (q : List Request). q ++ sevens next ups (others b) (suc i) n) (seven-next i)
       ∙ ap (λ (l : List Request). seven r ups b (suc i) ++ l) (sevens-next (suc i) n)
 
   -- so the whole move is the first byte's cycles, then the whole move from there
   whole-next : r .a ≡ suc m
-      → record { requests = seven r ups b 0 ++ wholeMove next ups (λ j. b (suc j)) .requests; out = wholeMove next ups (λ j. b (suc j)) .out } ≡ wholeMove r ups b
+      → record { requests = seven r ups b 0 ++ wholeMove next ups (others b) .requests; out = wholeMove next ups (others b) .out } ≡ wholeMove r ups b
   unfolding wholeMove
   whole-next e =
-      ap (λ (l : List Request). ran (seven r ups b 0 ++ l) (xAfter next ups (λ j. b (suc j)) (suc m)) (yAfter next ups (λ j. b (suc j)) (suc m))) (sevens-next 0 (suc m))
-      ∙ ap (λ (v : ℕ). ran (sevens r ups b 0 (suc (suc m))) v (yAfter next ups (λ j. b (suc j)) (suc m))) (index-next (r .flags .indexsel) (r .x) (suc m))
-      ∙ ap (λ (v : ℕ). ran (sevens r ups b 0 (suc (suc m))) (xAfter r ups b (suc (suc m))) v) (index-next (r .flags .indexsel) (r .y) (suc m))
+      ap (λ (l : List Request). ran (seven r ups b 0 ++ l) (xAfter next ups (suc m)) (yAfter next ups (suc m))) (sevens-next 0 (suc m))
+      ∙ ap (λ (v : ℕ). ran (sevens r ups b 0 (suc (suc m))) v (yAfter next ups (suc m))) (index-next (r .flags .indexsel) (r .x) (suc m))
+      ∙ ap (λ (v : ℕ). ran (sevens r ups b 0 (suc (suc m))) (xAfter r ups (suc (suc m))) v) (index-next (r .flags .indexsel) (r .y) (suc m))
       ∙ rw e
     where
       ran : List Request → (x y : ℕ) → Ran
-      ran q u v = record {
-        requests = q;
-        out = Next (record {
-          a = 0xFFFF;
-          x = u;
-          y = v;
-          s = r .s;
-          d = r .d;
-          pc = up (r .pc) 3;
-          pbr = r .pbr;
-          dbr = b (suc m) 1;
-          flags = r .flags;
-          held = false;
-          ir = 0;
-          tcu = 0;
-          tempaddr = 0;
-          tempdata = 0;
-          tempbank = 0;
-        });
-      }
+      ran q x y = record { requests = q; out = Next (moved r x y (b (suc m) 1)) }
 
 -- ---- the whole move
 module _ (ups : Bool) (ir : ℕ) (k : decodeOf ir ≡ Listed (Move ups)) where
@@ -218,15 +181,15 @@ module _ (ups : Bool) (ir : ℕ) (k : decodeOf ir ≡ Listed (Move ups)) where
   move-law zero zero r b e small fits near t h = absurd (not-suc-le-zero fits)
   move-law (suc m) zero r b e small fits near t h = absurd (not-suc-le-zero fits)
   move-law zero (suc n) r b e small fits near t h =
-      ap (λ (u : Ran). goOn (u .requests) (u .out) (runMove n (λ i. b (suc i)))) h
-      ∙ ap (λ (u : Answer). goOn (seven r ups b 0) u (runMove n (λ i. b (suc i)))) (byte-last ups ir r (b 0) t e)
+      ap (λ (u : Ran). goOn (u .requests) (u .out) (runMove n (others b))) h
+      ∙ ap (λ (u : Answer). goOn (seven r ups b 0) u (runMove n (others b))) (byte-last ups ir r (b 0) t e)
       ∙ rw e
   move-law (suc m) (suc n) r b e small fits near t h =
       let next : Record = between ups ir r m (b 0 1) in
-      ap (λ (u : Ran). goOn (u .requests) (u .out) (runMove n (λ i. b (suc i)))) h
-      ∙ ap (λ (u : Answer). goOn (seven r ups b 0) u (runMove n (λ i. b (suc i)))) (byte-more ups ir r (b 0) m t e small)
+      ap (λ (u : Ran). goOn (u .requests) (u .out) (runMove n (others b))) h
+      ∙ ap (λ (u : Answer). goOn (seven r ups b 0) u (runMove n (others b))) (byte-more ups ir r (b 0) m t e small)
       ∙ ap (λ (u : Ran). record { requests = seven r ups b 0 ++ u .requests; out = u .out })
-      (move-law m n next (λ i. b (suc i)) refl (omega arith) (omega arith) near (record { m = t .m; x = t .x; home = t .home })
+      (move-law m n next (others b) refl (omega arith) (omega arith) near (record { m = t .m; x = t .x; home = t .home })
       (next-runs r m (b 0 1) (b 1) t e small near))
       ∙ whole-next ups ir r m (b 0 1) b e
 
