@@ -28,8 +28,7 @@ use Rattle.cycles.specs.Cycles.{none, cyclesOf, phaseOf, wideOf, unaligned, hel
 use Rattle.cycles.specs.declared.types.Micro.{Micro}
 use Rattle.cycles.specs.declared.types.Micro.the-variants.{Refuse, Fetch, Cycle}
 use Rattle.step.specs.Cycle.{microOf, begun, askedBy, answeredBy, requestOf, answerOf}
-use Rattle.sheet.specs.Counts.{countOf}
-use Rattle.sheet.specs.Exists.{firstOf, existing, hasCycle, Given, GivenLast, heldRefusal, refusalOf, fetchRefusal, orElse, refusalAt, noOf, refusedOf}
+use Rattle.sheet.specs.Exists.{firstOf, longestOf, existing, hasCycle, Given, GivenLast, heldRefusal, refusalOf, fetchRefusal, orElse, refusalAt, noOf, refusedOf}
 use Rattle.sheet.proofs.Walk.{false-true}
 
 -- ---- the refusal that a micro-operation is, if it is one
@@ -64,7 +63,7 @@ span-refuses (later {cs} h) zero = refl
 span-refuses (later {cs} h) (suc n) = rw (leb·suc-suc 0 n, leb·zero n, leb·suc-suc (suc n) (length cs)) (in-list cs n h)
 
 -- each shape's list has the cycles that the table counts, at its own width
-spans : (s : Shape) (m x w d e : Bool) → w ≡ wideOf s m x → Spans (firstOf s) (countOf s w d e true true) (cyclesOf s w d e)
+spans : (s : Shape) (m x w d e : Bool) → w ≡ wideOf s m x → Spans (firstOf s) (longestOf s w d e) (cyclesOf s w d e)
 spans (Immediate k g) m x true d e h = later refl
 spans (Immediate k g) m x false d e h = later refl
 spans (Direct k g) m x true true e h = later refl

@@ -55,10 +55,13 @@ firstOf ReturnLong = 1
 firstOf BranchLong = 1
 firstOf (Branch k) = 1
 
--- whether a held opcode has that cycle, at the record's widths, low byte of D and mode; a branch's condition and page aren't
--- looked at, so it has the cycles of one that is taken, onto another page
+-- the cycles that it may take: a branch's condition and page aren't looked at, so those of one that is taken, onto another page
+abbrev pub longestOf : Shape → (w d e : Bool) → ℕ
+longestOf s w d e = countOf s w d e true true
+
+-- whether a held opcode has that cycle, at the record's widths, low byte of D and mode
 abbrev pub existing : Shape → (w d e : Bool) → (tcu : ℕ) → Bool
-existing s w d e tcu = leb (firstOf s) tcu && ltb tcu (countOf s w d e true true)
+existing s w d e tcu = leb (firstOf s) tcu && ltb tcu (longestOf s w d e)
 
 abbrev pub hasCycle : Shape → Flags → (d tcu : ℕ) → Bool
 hasCycle s f d tcu = existing s (wideOf s (f .memsel) (f .indexsel)) (unaligned d) (f .emulation) tcu
