@@ -1,23 +1,22 @@
 -- MVN and MVP from the first byte to the last: byte after byte the sheet's row, A + 1 times.
-use Prim.Native.Nat.{ℕ, zero, suc, _+_, _*_, _/_, _%_, _<_}
+use Prim.Native.Nat.{ℕ, zero, suc, _+_, _*_, _/_, _<_}
 use native.Mathlib.Nat.{not-suc-le-zero}
 use native.Mathlib.Omega.{arith}
 use mathlib.Core.Path.{_≡_, refl, ap, sym, subst, _∙_}
-use mathlib.Core.Bool.{Bool, true, false, not, _&&_, _||_}
-use mathlib.Core.List.{List, [], _∷_, _++_}
+use mathlib.Core.Bool.{Bool, true, false, _&&_, _||_}
+use mathlib.Core.List.{List, _++_}
 use lib.Dec.{eqb}
 use lib.ListN.{length}
-use borrow.Author.Tests.{eqb-true, eq-eqb, ne-eqb}
-use Rattle.words.specs.Words.{pick, implied, dec, up, pageOne, index}
+use borrow.Author.Tests.{eqb-true, ne-eqb}
+use Rattle.words.specs.Words.{implied, dec, up, pageOne, index}
 use Rattle.cpu.specs.Registers.{stepped, moves}
 use Rattle.flags.specs.declared.Flags.{Flags}
 use Rattle.cpu.specs.Record.{boundary, narrowed, clean, wellFormed, regsOf, ended}
 use Rattle.cpu.specs.declared.types.Record.{Record}
 use Rattle.cpu.specs.declared.types.Request.{Request}
 use Rattle.cpu.specs.declared.types.Answer.{Answer}
-use Rattle.cpu.specs.declared.types.Answer.the-variants.{Next, Refused}
+use Rattle.cpu.specs.declared.types.Answer.the-variants.{Next}
 use Rattle.opcodes.specs.Opcodes.{decodeOf}
-use Rattle.opcodes.specs.declared.types.Op.{Op}
 use Rattle.opcodes.specs.declared.types.Op.the-variants.{Listed}
 use Rattle.opcodes.specs.declared.types.Shape.the-variants.{Move}
 use Rattle.sheet.specs.Run.{Ran, run}

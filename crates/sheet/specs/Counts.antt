@@ -5,7 +5,6 @@ use mathlib.Core.Bool.{Bool, true, false, not, _&&_}
 use Rattle.words.specs.Words.{pick, bit, lowOf, up, displaced, samePage}
 use Rattle.flags.specs.declared.Flags.{Flags}
 use Rattle.cpu.specs.Record.{holds}
-use Rattle.cpu.specs.declared.types.Record.{Record}
 use Rattle.cpu.specs.declared.types.Source.the-variants as of
 use Rattle.opcodes.specs.declared.types.Shape.{Shape}
 use Rattle.opcodes.specs.declared.types.Shape.the-variants.{Immediate, Absolute, Direct, StoreAbsolute, StoreDirect, Implied, Xba, Mask, Wdm, Push, Pull, PullP, PullB, PullD, Pea, Pei, Per, Jump, JumpLong, JumpIndirect, JumpIndirectLong, JumpIndexed, Call, CallIndexed, CallLong, Return, ReturnLong, Branch, BranchLong, Move}

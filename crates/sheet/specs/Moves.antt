@@ -1,7 +1,7 @@
 -- MVN and MVP from the first byte to the last: byte after byte, as long as the opcode is held.
 -- `b i k` is the byte that is answered in cycle k of the move's byte i.
 use Prim.Native.Nat.{ℕ, zero, suc}
-use mathlib.Core.Bool.{Bool, true, false}
+use mathlib.Core.Bool.{Bool, false}
 use mathlib.Core.List.{List, [], _∷_, _++_}
 use Rattle.words.specs.Words.{pick, lowOf, up, at, index}
 use Rattle.cpu.specs.Registers.{stepped}
