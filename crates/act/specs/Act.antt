@@ -1,25 +1,28 @@
--- What a cycle makes of the answered byte: where it leads, then the record that this gives.
+-- What a cycle makes of the answered byte: PC, S, DBR and the scratch words; the registers; where it leads; then the record.
 use Prim.Native.Nat.{ℕ, zero, suc, _%_}
-use mathlib.Core.Bool.{Bool, true, false, not, _&&_}
+use mathlib.Core.Bool.{Bool, true, false, not}
 use lib.Dec.{eqb}
 use Rattle.words.specs.Words.{pick, lowOf, word, lowSet, inc, dec, sum16, displaced, samePage}
-use Rattle.cpu.specs.Registers.{changed, changeOf, stackOf}
+use Rattle.cpu.specs.Registers.{operates, pulls, directs, masks, moves, setD, setFlags, applied, stackOf}
 use Rattle.cpu.specs.Record.{midOf, regsOf, underWay, ended, pushed, pulled, holds}
+use Rattle.flags.specs.Flags.{setByte, setNZ}
 use Rattle.cpu.specs.declared.types.Record.{Record}
 use Rattle.cpu.specs.declared.types.Mid.{Mid}
-use Rattle.cpu.specs.declared.types.Part.{Part}
+use Rattle.cpu.specs.declared.types.Regs.{Regs}
 use Rattle.cpu.specs.declared.types.Part.the-variants.{Only, Low, High}
-use Rattle.cpu.specs.declared.types.Stack.{Stack}
 use Rattle.cpu.specs.declared.types.Stack.the-variants.{Paged, Raw, Home}
-use Rattle.cpu.specs.declared.types.Change.{Change}
-use Rattle.cpu.specs.declared.types.Change.the-variants as change
-use Rattle.cycles.specs.declared.types.Act.{Act}
-use Rattle.cycles.specs.declared.types.Act.the-variants.{Wait, Finish, Skip, Step, AddrLow, Offset, AddrHigh, AddrLast, DataLow, DataHigh, ReadLow, ReadHigh, BankByte, Operand, Operate, Apply, Mask, Pull, PullP, PullB, PullDLow, PullDHigh, Push, PushPaged, PushLast, Relative, Jump, JumpLong, JumpBank, Call, CallLong, PcLow, PcHigh, Return, ReturnLong, Branch, Take, TakeLong, MoveTo, MoveFrom, MoveStore, MoveEnd}
-use Rattle.act.specs.declared.types.To.{To}
-use Rattle.act.specs.declared.types.To.the-variants.{On, End, Again}
-use Rattle.act.specs.declared.types.Goes.{Goes}
+use Rattle.opcodes.specs.Opcodes.{aluOf, regOf, oneIn, condIn, flagIn}
+use Rattle.opcodes.specs.declared.types.Operation.{Operation}
+use Rattle.cycles.specs.declared.types.Move.{Move}
+use Rattle.cycles.specs.declared.types.Move.the-variants.{Stay, Step, AddrLow, AddrHigh, AddrLast, Offset, DataLow, DataHigh, ReadLow, ReadHigh, BankByte, PullPaged, PullRaw, PullBank, PushPaged, PushRaw, Stacked, Relative, JumpRead, JumpAddr, JumpData, Call, PcLowPaged, PcLowHome, PcHighPaged, PcHighRaw, ReturnLong, Branch, Take, TakeLong, MoveTo, MoveFrom, MoveStore, MoveEnd}
+use Rattle.cycles.specs.declared.types.Change.{Change}
+use Rattle.cycles.specs.declared.types.Change.the-variants.{Keep, OperateOnly, OperateLow, OperateHigh, PullOnly, PullLow, PullHigh, Apply, Mask, Status, Sign, DirectLow, DirectHigh, MoveByte}
+use Rattle.cycles.specs.declared.types.To.{To}
+use Rattle.cycles.specs.declared.types.To.the-variants as to
+use Rattle.act.specs.declared.types.Way.{Way}
+use Rattle.act.specs.declared.types.Way.the-variants.{On, End, Again}
 
--- one setter a field
+-- ---- PC, S, DBR and the scratch words: one setter a field
 abbrev pub setPc : ℕ → Mid → Mid
 setPc v t = record { pc = v; s = t .s; dbr = t .dbr; tempaddr = t .tempaddr; tempdata = t .tempdata; tempbank = t .tempbank }
 
@@ -42,81 +45,95 @@ setBank v t = record { pc = t .pc; s = t .s; dbr = t .dbr; tempaddr = t .tempadd
 abbrev pub past : Mid → Mid
 past t = setPc (inc (t .pc)) t
 
--- on to the next cycle, or to the end, in this or in another program bank, with or without a change of the registers
-abbrev pub goes : To → ℕ → Change → Mid → Goes
-goes to pbr c t = record { to = to; pbr = pbr; change = c; mid = t }
+-- where a branch goes
+abbrev pub target : Record → ℕ
+target r = displaced (r .pc) (lowOf (r .tempaddr))
 
--- the last byte of an operand ends its instruction
-abbrev pub afterPart : Part → To
-afterPart Only = End
-afterPart Low = On
-afterPart High = End
+-- a move's last byte, after which A is FFFF, steps past the operand; another one goes back to the opcode
+abbrev pub lastByte : Record → Bool
+lastByte r = eqb (dec (r .a)) 0xFFFF
 
--- a branch goes on if it is taken and then, in emulation, if it leads to another page; else it ends
-abbrev pub unless : Bool → To
-unless true = On
-unless false = End
+abbrev pub midAfter : Move → Operation → Record → ℕ → Mid
+midAfter Stay o r b = midOf r
+midAfter Step o r b = past (midOf r)
+midAfter AddrLow o r b = setAddr b (past (midOf r))
+midAfter AddrHigh o r b = setAddr (word (r .tempaddr) b) (past (midOf r))
+midAfter AddrLast o r b = setAddr (word (r .tempaddr) b) (midOf r)
+midAfter Offset o r b = setAddr (sum16 (r .d) b) (past (midOf r))
+midAfter DataLow o r b = setData b (past (midOf r))
+midAfter DataHigh o r b = setData (word (r .tempdata) b) (past (midOf r))
+midAfter ReadLow o r b = setData b (midOf r)
+midAfter ReadHigh o r b = setData (word (r .tempdata) b) (midOf r)
+midAfter BankByte o r b = setBank b (midOf r)
+midAfter PullPaged o r b = setS (pulled Paged (r .flags .emulation) (r .s)) (midOf r)
+midAfter PullRaw o r b = setS (pulled Raw (r .flags .emulation) (r .s)) (midOf r)
+midAfter PullBank o r b = setDbr b (setS (pulled Raw (r .flags .emulation) (r .s)) (midOf r))
+midAfter PushPaged o r b = setS (pushed (r .flags .emulation) (r .s)) (midOf r)
+midAfter PushRaw o r b = setS (dec (r .s)) (midOf r)
+midAfter Stacked o r b = setS (stackOf (oneIn o) (r .s) (regsOf r)) (midOf r)
+midAfter Relative o r b = setData (sum16 (r .pc) (r .tempaddr)) (midOf r)
+midAfter JumpRead o r b = setPc (word (r .tempdata) b) (midOf r)
+midAfter JumpAddr o r b = setPc (r .tempaddr) (midOf r)
+midAfter JumpData o r b = setPc (r .tempdata) (midOf r)
+midAfter Call o r b = setPc (r .tempaddr) (setS (dec (r .s)) (midOf r))
+midAfter PcLowPaged o r b = setPc (lowSet (r .pc) b) (setS (pulled Paged (r .flags .emulation) (r .s)) (midOf r))
+midAfter PcLowHome o r b = setPc (lowSet (r .pc) b) (setS (pulled Home (r .flags .emulation) (r .s)) (midOf r))
+midAfter PcHighPaged o r b = setPc (word (r .pc) b) (setS (pulled Paged (r .flags .emulation) (r .s)) (midOf r))
+midAfter PcHighRaw o r b = setPc (word (r .pc) b) (setS (pulled Raw (r .flags .emulation) (r .s)) (midOf r))
+midAfter ReturnLong o r b = past (setS (pulled Raw (r .flags .emulation) (r .s)) (midOf r))
+midAfter Branch o r b = setAddr b (setData (inc (r .pc)) (past (midOf r)))
+midAfter Take o r b = setPc (target r) (midOf r)
+midAfter TakeLong o r b = setPc (sum16 (inc (r .pc)) (r .tempaddr)) (midOf r)
+midAfter MoveTo o r b = setBank b (past (midOf r))
+midAfter MoveFrom o r b = setAddr b (midOf r)
+midAfter MoveStore o r b = setDbr (r .tempbank) (midOf r)
+midAfter MoveEnd o r b = setPc (pick (lastByte r) (inc (r .pc)) (dec (dec (r .pc)))) (midOf r)
 
--- a move's byte: the last one, after which A is FFFF, steps past the operand; another one goes back to the opcode
-abbrev pub moveOn : (last : Bool) → (pbr : ℕ) → (ups : Bool) → Mid → Goes
-moveOn true pbr ups t = goes End pbr (change.Move ups) (past t)
-moveOn false pbr ups t = goes Again pbr (change.Move ups) (setPc (dec (dec (t .pc))) t)
+-- ---- the registers
+abbrev pub regsAfter : Change → Operation → Record → ℕ → Regs
+regsAfter Keep o r b = regsOf r
+regsAfter OperateOnly o r b = operates (aluOf o) (regOf o) Only b (regsOf r)
+regsAfter OperateLow o r b = operates (aluOf o) (regOf o) Low b (regsOf r)
+regsAfter OperateHigh o r b = operates (aluOf o) (regOf o) High b (regsOf r)
+regsAfter PullOnly o r b = pulls (regOf o) Only b (regsOf r)
+regsAfter PullLow o r b = pulls (regOf o) Low b (regsOf r)
+regsAfter PullHigh o r b = pulls (regOf o) High b (regsOf r)
+regsAfter Apply o r b = applied (oneIn o) (r .s) (regsOf r)
+regsAfter Mask o r b = masks (flagIn o) b (regsOf r)
+regsAfter Status o r b = setFlags (setByte (r .flags) b) (regsOf r)
+regsAfter Sign o r b = setFlags (setNZ (r .flags) b false) (regsOf r)
+regsAfter DirectLow o r b = setD (lowSet (r .d) b) (regsOf r)
+regsAfter DirectHigh o r b = directs (word (r .d) b) (regsOf r)
+regsAfter MoveByte o r b = moves (flagIn o) (regsOf r)
 
-abbrev pub stepOf : Act → Record → ℕ → Goes
-stepOf Wait r b = goes On (r .pbr) change.Nothing (midOf r)
-stepOf Finish r b = goes End (r .pbr) change.Nothing (midOf r)
-stepOf Skip r b = goes End (r .pbr) change.Nothing (past (midOf r))
-stepOf Step r b = goes On (r .pbr) change.Nothing (past (midOf r))
-stepOf AddrLow r b = goes On (r .pbr) change.Nothing (setAddr b (past (midOf r)))
-stepOf Offset r b = goes On (r .pbr) change.Nothing (setAddr (sum16 (r .d) b) (past (midOf r)))
-stepOf AddrHigh r b = goes On (r .pbr) change.Nothing (setAddr (word (r .tempaddr) b) (past (midOf r)))
-stepOf AddrLast r b = goes On (r .pbr) change.Nothing (setAddr (word (r .tempaddr) b) (midOf r))
-stepOf DataLow r b = goes On (r .pbr) change.Nothing (setData b (past (midOf r)))
-stepOf DataHigh r b = goes On (r .pbr) change.Nothing (setData (word (r .tempdata) b) (past (midOf r)))
-stepOf ReadLow r b = goes On (r .pbr) change.Nothing (setData b (midOf r))
-stepOf ReadHigh r b = goes On (r .pbr) change.Nothing (setData (word (r .tempdata) b) (midOf r))
-stepOf BankByte r b = goes On (r .pbr) change.Nothing (setBank b (midOf r))
-stepOf (Operand k g p) r b = goes (afterPart p) (r .pbr) (change.Operate k g p b) (past (midOf r))
-stepOf (Operate k g p) r b = goes (afterPart p) (r .pbr) (change.Operate k g p b) (midOf r)
-stepOf (Apply k) r b = goes End (r .pbr) (changeOf k (r .s) (regsOf r)) (setS (stackOf k (r .s) (regsOf r)) (midOf r))
-stepOf (Mask to) r b = goes On (r .pbr) (change.Mask to b) (past (midOf r))
-stepOf (Pull g p) r b = goes (afterPart p) (r .pbr) (change.Pull g p b) (setS (pulled Paged (r .flags .emulation) (r .s)) (midOf r))
-stepOf PullP r b = goes End (r .pbr) (change.Status b) (setS (pulled Paged (r .flags .emulation) (r .s)) (midOf r))
-stepOf PullB r b = goes End (r .pbr) (change.Sign b) (setDbr b (setS (pulled Raw (r .flags .emulation) (r .s)) (midOf r)))
-stepOf PullDLow r b = goes On (r .pbr) (change.DirectLow b) (setS (pulled Raw (r .flags .emulation) (r .s)) (midOf r))
-stepOf PullDHigh r b = goes End (r .pbr) (change.Direct (word (r .d) b)) (setS (pulled Raw (r .flags .emulation) (r .s)) (midOf r))
-stepOf Push r b = goes On (r .pbr) change.Nothing (setS (dec (r .s)) (midOf r))
-stepOf PushPaged r b = goes On (r .pbr) change.Nothing (setS (pushed (r .flags .emulation) (r .s)) (midOf r))
-stepOf PushLast r b = goes End (r .pbr) change.Nothing (setS (dec (r .s)) (midOf r))
-stepOf Relative r b = goes On (r .pbr) change.Nothing (setData (sum16 (r .pc) (r .tempaddr)) (midOf r))
-stepOf Jump r b = goes End (r .pbr) change.Nothing (setPc (word (r .tempdata) b) (midOf r))
-stepOf JumpLong r b = goes End b change.Nothing (setPc (r .tempaddr) (midOf r))
-stepOf JumpBank r b = goes End b change.Nothing (setPc (r .tempdata) (midOf r))
-stepOf Call r b = goes End (r .pbr) change.Nothing (setPc (r .tempaddr) (setS (dec (r .s)) (midOf r)))
-stepOf CallLong r b = goes End (r .tempbank) change.Nothing (setPc (r .tempaddr) (setS (dec (r .s)) (midOf r)))
-stepOf (PcLow k) r b = goes On (r .pbr) change.Nothing (setPc (lowSet (r .pc) b) (setS (pulled k (r .flags .emulation) (r .s)) (midOf r)))
-stepOf (PcHigh k) r b = goes On (r .pbr) change.Nothing (setPc (word (r .pc) b) (setS (pulled k (r .flags .emulation) (r .s)) (midOf r)))
-stepOf Return r b = goes End (r .pbr) change.Nothing (past (midOf r))
-stepOf ReturnLong r b = goes End b change.Nothing (past (setS (pulled Raw (r .flags .emulation) (r .s)) (midOf r)))
-stepOf (Branch k) r b = goes (unless (holds k (r .flags))) (r .pbr) change.Nothing (setAddr b (setData (inc (r .pc)) (past (midOf r))))
-stepOf (Take paged) r b =
-    let q : ℕ = displaced (r .pc) (lowOf (r .tempaddr)) in
-    goes (unless (paged && not (samePage (r .pc) q))) (r .pbr) change.Nothing (setPc q (midOf r))
-stepOf TakeLong r b = goes End (r .pbr) change.Nothing (setPc (sum16 (inc (r .pc)) (r .tempaddr)) (midOf r))
-stepOf MoveTo r b = goes On (r .pbr) change.Nothing (setBank b (past (midOf r)))
-stepOf MoveFrom r b = goes On (r .pbr) change.Nothing (setAddr b (midOf r))
-stepOf MoveStore r b = goes On (r .pbr) change.Nothing (setDbr (r .tempbank) (midOf r))
-stepOf (MoveEnd ups) r b = moveOn (eqb (dec (r .a)) 0xFFFF) (r .pbr) ups (midOf r)
+-- ---- where it leads: a branch goes on if it is taken, then if it leads to another page; a move ends with its last byte
+abbrev pub unless : Bool → ℕ → Way
+unless true pbr = On pbr
+unless false pbr = End pbr
+
+abbrev pub movedOn : (last : Bool) → ℕ → Way
+movedOn true pbr = End pbr
+movedOn false pbr = Again pbr
+
+abbrev pub wayOf : To → Operation → Record → ℕ → Way
+wayOf to.On o r b = On (r .pbr)
+wayOf to.End o r b = End (r .pbr)
+wayOf to.EndByte o r b = End b
+wayOf to.EndBank o r b = End (r .tempbank)
+wayOf to.Taken o r b = unless (holds (condIn o) (r .flags)) (r .pbr)
+wayOf to.Crossed o r b = unless (not (samePage (r .pc) (target r))) (r .pbr)
+wayOf to.Moved o r b = movedOn (lastByte r) (r .pbr)
+
+-- ---- the record after it
 
 -- the cycle after: one that exists is below 8, so the remainder changes nothing
 abbrev pub nextCycle : ℕ → ℕ
 nextCycle c = suc (c % 8)
 
--- the record after it
-abbrev pub arrived : Record → Goes → To → Record
-arrived r g On = underWay (r .ir) (nextCycle (r .tcu)) (g .pbr) (changed (g .change) (regsOf r)) (g .mid)
-arrived r g End = ended (r .ir) false (g .pbr) (g .mid .pc) (g .mid .s) (g .mid .dbr) (changed (g .change) (regsOf r))
-arrived r g Again = ended (r .ir) true (g .pbr) (g .mid .pc) (g .mid .s) (g .mid .dbr) (changed (g .change) (regsOf r))
+abbrev pub arrived : Way → (ir tcu : ℕ) → Regs → Mid → Record
+arrived (On pbr) ir tcu g t = underWay ir (nextCycle tcu) pbr g t
+arrived (End pbr) ir tcu g t = ended ir false pbr (t .pc) (t .s) (t .dbr) g
+arrived (Again pbr) ir tcu g t = ended ir true pbr (t .pc) (t .s) (t .dbr) g
 
-unfoldable pub actOf : Act → Record → ℕ → Record
-actOf k r b = arrived r (stepOf k r b) (stepOf k r b .to)
+abbrev pub actOf : Move → Change → To → Operation → Record → ℕ → Record
+actOf m c t o r b = arrived (wayOf t o r b) (r .ir) (r .tcu) (regsAfter c o r b) (midAfter m o r b)

@@ -1,16 +1,6 @@
-// Where a cycle leads.
-use cpu::types::Change;
-use cpu::types::Mid;
-
-pub enum To {
-    On, // the instruction's next cycle
-    End, // the next instruction's start
-    Again, // the move's next byte
-}
-
-pub struct Goes {
-    pub to: To,
-    pub pbr: u8,
-    pub change: Change,
-    pub mid: Mid,
+// Where a cycle leads, once the record and the byte are known.
+pub enum Way {
+    On(u8), // the instruction's next cycle; each with its program bank
+    End(u8), // the next instruction's start
+    Again(u8), // the move's next byte
 }

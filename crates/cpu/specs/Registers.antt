@@ -16,8 +16,6 @@ use Rattle.cpu.specs.declared.types.Part.{Part}
 use Rattle.cpu.specs.declared.types.Part.the-variants.{Only, Low, High}
 use Rattle.cpu.specs.declared.types.One.{One}
 use Rattle.cpu.specs.declared.types.One.the-variants as one
-use Rattle.cpu.specs.declared.types.Change.{Change}
-use Rattle.cpu.specs.declared.types.Change.the-variants as to
 
 -- ---- the three registers by name
 abbrev pub get : Reg → Regs → ℕ
@@ -64,7 +62,7 @@ halfSet Only w b = lowSet w b
 halfSet Low w b = lowSet w b
 halfSet High w b = word w b
 
--- ---- the changes
+-- ---- what instructions do to them
 
 -- a byte of an operation between a register and what was read
 unfoldable pub operates : Alu → Reg → Part → ℕ → Regs → Regs
@@ -118,44 +116,24 @@ moves ups g = record {
   flags = g .flags;
 }
 
-abbrev pub changed : Change → Regs → Regs
-changed to.Nothing g = g
-changed (to.Operate k r p b) g = operates k r p b g
-changed (to.Pull r p b) g = pulls r p b g
-changed (to.Transfer r v) g = transfers r v g
-changed (to.Whole v) g = wholly v g
-changed (to.DirectLow b) g = setD (lowSet (g .d) b) g
-changed (to.Direct v) g = directs v g
-changed (to.Accumulator k) g = shifts k g
-changed to.Swap g = swaps g
-changed (to.Carry c) g = setFlags (withCarry c (g .flags)) g
-changed (to.Interrupt i) g = setFlags (setID (g .flags) i (g .flags .decimal)) g
-changed (to.Decimal d) g = setFlags (setID (g .flags) (g .flags .interruptdisable) d) g
-changed to.Clv g = setFlags (setNVZC (g .flags) (g .flags .negative) false (g .flags .zero) (g .flags .carry)) g
-changed to.Exchange g = setFlags (swapCE (g .flags)) g
-changed (to.Mask to b) g = masks to b g
-changed (to.Status b) g = setFlags (setByte (g .flags) b) g
-changed (to.Sign b) g = setFlags (setNZ (g .flags) b false) g
-changed (to.Move ups) g = moves ups g
-
--- ---- an instruction of one byte: what it changes of the registers, and S after it
-abbrev pub changeOf : One → (s : ℕ) → Regs → Change
-changeOf (one.Accumulator k) s g = to.Accumulator k
-changeOf (one.Carry c) s g = to.Carry c
-changeOf (one.Interrupt i) s g = to.Interrupt i
-changeOf (one.Decimal d) s g = to.Decimal d
-changeOf one.Clv s g = to.Clv
-changeOf one.Nop s g = to.Nothing
-changeOf one.Xce s g = to.Exchange
-changeOf one.Xba s g = to.Swap
-changeOf (one.Transfer from into) s g = to.Transfer into (get from g)
-changeOf (one.Index r ups) s g = to.Transfer r (stepped ups (get r g))
-changeOf one.Tsx s g = to.Transfer X s
-changeOf one.Txs s g = to.Nothing
-changeOf one.Tcs s g = to.Nothing
-changeOf one.Tsc s g = to.Whole s
-changeOf one.Tcd s g = to.Direct (g .a)
-changeOf one.Tdc s g = to.Whole (g .d)
+-- ---- an instruction of one byte: the registers after it, and S
+abbrev pub applied : One → (s : ℕ) → Regs → Regs
+applied (one.Accumulator k) s g = shifts k g
+applied (one.Carry c) s g = setFlags (withCarry c (g .flags)) g
+applied (one.Interrupt i) s g = setFlags (setID (g .flags) i (g .flags .decimal)) g
+applied (one.Decimal d) s g = setFlags (setID (g .flags) (g .flags .interruptdisable) d) g
+applied one.Clv s g = setFlags (setNVZC (g .flags) (g .flags .negative) false (g .flags .zero) (g .flags .carry)) g
+applied one.Nop s g = g
+applied one.Xce s g = setFlags (swapCE (g .flags)) g
+applied one.Xba s g = swaps g
+applied (one.Transfer from into) s g = transfers into (get from g) g
+applied (one.Index r ups) s g = transfers r (stepped ups (get r g)) g
+applied one.Tsx s g = transfers X s g
+applied one.Txs s g = g
+applied one.Tcs s g = g
+applied one.Tsc s g = wholly s g
+applied one.Tcd s g = directs (g .a) g
+applied one.Tdc s g = wholly (g .d) g
 
 -- TXS and TCS set no flags; in emulation the end leaves them S's low byte alone
 abbrev pub stackOf : One → (s : ℕ) → Regs → ℕ

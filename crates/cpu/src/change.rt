@@ -4,7 +4,7 @@ ghost use mathlib.Core.Path.{_≡_};
 ghost use mathlib.Core.Bool.{false};
 ghost use Rattle.flags.specs.Flags.{setNVZC, setID};
 ghost use Rattle.alu.specs.Alu.{withCarry};
-ghost use Rattle.cpu.specs.Registers.{operates, pulls, transfers, wholly, directs, setD, setFlags, shifts, swaps, masks, moves, changed, changeOf, stackOf};
+ghost use Rattle.cpu.specs.Registers.{operates, pulls, transfers, wholly, directs, setD, setFlags, shifts, swaps, masks, moves, applied, stackOf};
 ghost use Rattle.words.specs.Words.{lowSet};
 use crate::registers::choose;
 use crate::registers::half_of;
@@ -17,7 +17,6 @@ use crate::registers::with_d;
 use crate::registers::with_flags;
 use crate::registers::with_half;
 use crate::registers::with_value;
-use crate::types::Change;
 use crate::types::One;
 use crate::types::Part;
 use crate::types::Reg;
@@ -35,7 +34,7 @@ use words::with_high;
 use words::with_low;
 
 // A byte of an operation between a register and what was read.
-fn operated(k: Alu, r: Reg, p: Part, b: u8, g: Regs) -> Regs
+pub fn operated(k: Alu, r: Reg, p: Part, b: u8, g: Regs) -> Regs
     ensures { λ t. ⌜ t ≡ operates k r p b g ⌝ }
 {
     let v = value_of(r, g);
@@ -46,7 +45,7 @@ fn operated(k: Alu, r: Reg, p: Part, b: u8, g: Regs) -> Regs
 }
 
 // A byte of PLA, PLX or PLY: the flags come with the last one. The crate's `pull16!`.
-fn pulled(r: Reg, p: Part, b: u8, g: Regs) -> Regs
+pub fn pulled(r: Reg, p: Part, b: u8, g: Regs) -> Regs
     ensures { λ t. ⌜ t ≡ pulls r p b g ⌝ }
 {
     let f = g.flags;
@@ -78,14 +77,14 @@ fn whole(v: u16, g: Regs) -> Regs
     with_flags(f.set_nz(v, true), with_value(Reg::A, v, g))
 }
 
-fn direct(v: u16, g: Regs) -> Regs
+pub fn direct(v: u16, g: Regs) -> Regs
     ensures { λ t. ⌜ t ≡ directs v g ⌝ }
 {
     let f = g.flags;
     with_flags(f.set_nz(v, true), with_d(v, g))
 }
 
-fn direct_low(b: u8, g: Regs) -> Regs
+pub fn direct_low(b: u8, g: Regs) -> Regs
     ensures { λ t. ⌜ t ≡ setD (lowSet (g .d) b) g ⌝ }
 {
     with_d(with_low(g.d, b), g)
@@ -137,7 +136,7 @@ fn clear_overflow(g: Regs) -> Regs
 }
 
 // REP and SEP: setting the index flag clears the high bytes of X and Y at once.
-fn masked(to: bool, b: u8, g: Regs) -> Regs
+pub fn masked(to: bool, b: u8, g: Regs) -> Regs
     ensures { λ t. ⌜ t ≡ masks to b g ⌝ }
 {
     let old = g.flags;
@@ -152,7 +151,7 @@ fn masked(to: bool, b: u8, g: Regs) -> Regs
 }
 
 // A byte of a move: A falls by 1 as 16 bits at either width.
-fn moved(ups: bool, g: Regs) -> Regs
+pub fn moved(ups: bool, g: Regs) -> Regs
     ensures { λ t. ⌜ t ≡ moves ups g ⌝ }
 {
     let f = g.flags;
@@ -165,54 +164,28 @@ fn moved(ups: bool, g: Regs) -> Regs
     }
 }
 
-// The registers after a change.
-pub fn change(c: Change, g: Regs) -> Regs
-    ensures { λ t. ⌜ t ≡ changed c g ⌝ }
+// The registers after an instruction of one byte.
+pub fn apply(k: One, s: u16, g: Regs) -> Regs
+    ensures { λ t. ⌜ t ≡ applied k s g ⌝ }
 {
     let f = g.flags;
-    match c {
-        Change::Nothing => g,
-        Change::Operate(k, r, p, b) => operated(k, r, p, b, g),
-        Change::Pull(r, p, b) => pulled(r, p, b, g),
-        Change::Transfer(r, v) => transferred(r, v, g),
-        Change::Whole(v) => whole(v, g),
-        Change::DirectLow(b) => direct_low(b, g),
-        Change::Direct(v) => direct(v, g),
-        Change::Accumulator(k) => shifted(k, g),
-        Change::Swap => swapped(g),
-        Change::Carry(t) => carry(t, g),
-        Change::Interrupt(t) => interrupt(t, g),
-        Change::Decimal(t) => decimal(t, g),
-        Change::Clv => clear_overflow(g),
-        Change::Exchange => with_flags(f.swap_ce(), g),
-        Change::Mask(to, b) => masked(to, b, g),
-        Change::Status(b) => with_flags(f.set(b), g),
-        Change::Sign(b) => with_flags(f.set_nz(b as u16, false), g),
-        Change::Move(ups) => moved(ups, g),
-    }
-}
-
-// What an instruction of one byte changes of the registers.
-pub fn change_of(k: One, s: u16, g: Regs) -> Change
-    ensures { λ t. ⌜ t ≡ changeOf k s g ⌝ }
-{
     match k {
-        One::Accumulator(t) => Change::Accumulator(t),
-        One::Carry(t) => Change::Carry(t),
-        One::Interrupt(t) => Change::Interrupt(t),
-        One::Decimal(t) => Change::Decimal(t),
-        One::Clv => Change::Clv,
-        One::Nop => Change::Nothing,
-        One::Xce => Change::Exchange,
-        One::Xba => Change::Swap,
-        One::Transfer(from, to) => Change::Transfer(to, value_of(from, g)),
-        One::Index(r, ups) => Change::Transfer(r, step(ups, value_of(r, g))),
-        One::Tsx => Change::Transfer(Reg::X, s),
-        One::Txs => Change::Nothing,
-        One::Tcs => Change::Nothing,
-        One::Tsc => Change::Whole(s),
-        One::Tcd => Change::Direct(g.a),
-        One::Tdc => Change::Whole(g.d),
+        One::Accumulator(t) => shifted(t, g),
+        One::Carry(t) => carry(t, g),
+        One::Interrupt(t) => interrupt(t, g),
+        One::Decimal(t) => decimal(t, g),
+        One::Clv => clear_overflow(g),
+        One::Nop => g,
+        One::Xce => with_flags(f.swap_ce(), g),
+        One::Xba => swapped(g),
+        One::Transfer(from, to) => transferred(to, value_of(from, g), g),
+        One::Index(r, ups) => transferred(r, step(ups, value_of(r, g)), g),
+        One::Tsx => transferred(Reg::X, s, g),
+        One::Txs => g,
+        One::Tcs => g,
+        One::Tsc => whole(s, g),
+        One::Tcd => direct(g.a, g),
+        One::Tdc => whole(g.d, g),
     }
 }
 

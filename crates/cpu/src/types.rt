@@ -1,5 +1,4 @@
 // The machine's record, its parts, and what a cycle asks and answers.
-use alu::types::Alu;
 use alu::types::Shift;
 use flags::Flags;
 
@@ -137,26 +136,4 @@ pub enum One {
     Tsc,
     Tcd,
     Tdc,
-}
-
-// What a cycle changes of the registers.
-pub enum Change {
-    Nothing,
-    Operate(Alu, Reg, Part, u8),
-    Pull(Reg, Part, u8),
-    Transfer(Reg, u16),
-    Whole(u16), // all of A
-    DirectLow(u8),
-    Direct(u16),
-    Accumulator(Shift),
-    Swap, // XBA
-    Carry(bool),
-    Interrupt(bool),
-    Decimal(bool),
-    Clv,
-    Exchange, // XCE
-    Mask(bool, u8),
-    Status(u8), // PLP
-    Sign(u8), // N and Z alone, of a byte
-    Move(bool), // a byte of a move, upwards or downwards
 }

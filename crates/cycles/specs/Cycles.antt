@@ -1,4 +1,5 @@
 -- The cycles of each shape after its fetch: one list, whose places are the cycles' numbers.
+-- A cycle says what it asks; what it does to PC, S and the scratch words; what it does to the registers; and where it leads.
 -- Cycle 0 exists for a move alone, whose opcode is read again for each byte. What is past a list's end is no cycle.
 -- w: 16 bits wide; d: the low byte of D isn't 0; e: emulation. A branch's condition and page aren't looked at.
 use Prim.Native.Nat.{ℕ, _%_}
@@ -7,158 +8,174 @@ use mathlib.Core.List.{List, [], _∷_}
 use lib.Dec.{eqb}
 use lib.ListN.{getD}
 use Rattle.flags.specs.declared.Flags.{Flags}
-use Rattle.alu.specs.declared.types.Alu.{Alu}
-use Rattle.cpu.specs.Registers.{wideReg}
-use Rattle.cpu.specs.Record.{wideSource}
-use Rattle.cpu.specs.declared.types.Reg.{Reg}
-use Rattle.cpu.specs.declared.types.Source.{Source}
-use Rattle.cpu.specs.declared.types.Source.the-variants as of
-use Rattle.cpu.specs.declared.types.Cond.{Cond}
-use Rattle.cpu.specs.declared.types.One.{One}
-use Rattle.cpu.specs.declared.types.One.the-variants as one
-use Rattle.cpu.specs.declared.types.Part.{Part}
-use Rattle.cpu.specs.declared.types.Part.the-variants.{Only, Low, High}
-use Rattle.cpu.specs.declared.types.Stack.the-variants.{Paged, Raw, Home}
 use Rattle.cpu.specs.declared.types.Refusal.the-variants.{Unlisted, NoCycle}
+use Rattle.opcodes.specs.Opcodes.{wideOf}
 use Rattle.opcodes.specs.declared.types.Op.{Op}
 use Rattle.opcodes.specs.declared.types.Op.the-variants as op
+use Rattle.opcodes.specs.declared.types.Operation.{Operation}
 use Rattle.opcodes.specs.declared.types.Shape.{Shape}
 use Rattle.opcodes.specs.declared.types.Shape.the-variants as shape
-use Rattle.cycles.specs.declared.types.Place.{Place}
-use Rattle.cycles.specs.declared.types.Place.the-variants.{Far, Near}
 use Rattle.cycles.specs.declared.types.Ask.{Ask}
-use Rattle.cycles.specs.declared.types.Ask.the-variants.{Program, Idle, IdleBack, IdleAfter, IdleStack, IdleHome, Opcode, Data, Third, Table, Pulled, Store, Push, PushPc, PushData, MoveRead, MoveWrite, MoveIdle}
-use Rattle.cycles.specs.declared.types.Act.{Act}
-use Rattle.cycles.specs.declared.types.Act.the-variants as act
+use Rattle.cycles.specs.declared.types.Ask.the-variants.{Program, Idle, IdleBack, IdleAfter, IdleStack, IdleHome, Opcode, Far, FarNext, Near, NearNext, NearThird, Table, TableNext, PullPaged, PullRaw, PullHome, StoreFar, StoreFarNext, StoreNear, StoreNearNext, PushLow, PushHigh, PushPcLow, PushPcHigh, PushDataLow, PushDataHigh, PushPbr, MoveRead, MoveWrite, MoveIdle}
+use Rattle.cycles.specs.declared.types.Move.{Move}
+use Rattle.cycles.specs.declared.types.Move.the-variants as mv
+use Rattle.cycles.specs.declared.types.Change.{Change}
+use Rattle.cycles.specs.declared.types.Change.the-variants.{Keep, OperateOnly, OperateLow, OperateHigh, PullOnly, PullLow, PullHigh, Apply, Mask, Status, Sign, DirectLow, DirectHigh, MoveByte}
+use Rattle.cycles.specs.declared.types.To.{To}
+use Rattle.cycles.specs.declared.types.To.the-variants.{On, End, EndByte, EndBank, Taken, Crossed, Moved}
+use Rattle.cycles.specs.declared.types.Cycle.{Cycle}
+use Rattle.cycles.specs.declared.types.Cycle.the-variants.{Absent, Present}
 use Rattle.cycles.specs.declared.types.Micro.{Micro}
-use Rattle.cycles.specs.declared.types.Micro.the-variants.{Refuse, Cycle}
+use Rattle.cycles.specs.declared.types.Micro.the-variants.{Refuse, Held}
 
--- no such cycle: refusal 6
-abbrev pub none : Micro
-none = Refuse NoCycle
+-- a cycle that keeps the registers, and goes on or is the last one
+abbrev pub on : Ask → Move → Cycle
+on q m = Present q m Keep On
 
-abbrev pub immediate : Alu → Reg → (w : Bool) → List Micro
-immediate k r true = none ∷ Cycle Program (act.Operand k r Low) ∷ Cycle Program (act.Operand k r High) ∷ []
-immediate k r false = none ∷ Cycle Program (act.Operand k r Only) ∷ []
+abbrev pub last : Ask → Move → Cycle
+last q m = Present q m Keep End
 
--- the bytes of a value that is read, and of one that is stored
-abbrev pub read : Alu → Reg → Place → (w : Bool) → List Micro
-read k r p true = Cycle (Data p false) (act.Operate k r Low) ∷ Cycle (Data p true) (act.Operate k r High) ∷ []
-read k r p false = Cycle (Data p false) (act.Operate k r Only) ∷ []
-
-abbrev pub store : Source → Place → (w : Bool) → List Micro
-store k p true = Cycle (Store k p Low) act.Wait ∷ Cycle (Store k p High) act.Finish ∷ []
-store k p false = Cycle (Store k p Only) act.Finish ∷ []
+-- immediate
+abbrev pub immediate : (w : Bool) → List Cycle
+immediate true = Absent ∷ Present Program mv.Step OperateLow On ∷ Present Program mv.Step OperateHigh End ∷ []
+immediate false = Absent ∷ Present Program mv.Step OperateOnly End ∷ []
 
 -- the operand of absolute, and of direct with its idle cycle
-abbrev pub absolute : List Micro → List Micro
-absolute rest = none ∷ Cycle Program act.AddrLow ∷ Cycle Program act.AddrHigh ∷ rest
+abbrev pub absolute : List Cycle → List Cycle
+absolute rest = Absent ∷ on Program mv.AddrLow ∷ on Program mv.AddrHigh ∷ rest
 
-abbrev pub direct : (d : Bool) → List Micro → List Micro
-direct true rest = none ∷ Cycle Program act.Offset ∷ Cycle IdleBack act.Wait ∷ rest
-direct false rest = none ∷ Cycle Program act.Offset ∷ rest
+abbrev pub direct : (d : Bool) → List Cycle → List Cycle
+direct true rest = Absent ∷ on Program mv.Offset ∷ on IdleBack mv.Stay ∷ rest
+direct false rest = Absent ∷ on Program mv.Offset ∷ rest
 
-abbrev pub implied : One → List Micro
-implied k = none ∷ Cycle Idle (act.Apply k) ∷ []
+-- the bytes of a value that is read, and of one that is stored
+abbrev pub readFar : (w : Bool) → List Cycle
+readFar true = Present Far mv.Stay OperateLow On ∷ Present FarNext mv.Stay OperateHigh End ∷ []
+readFar false = Present Far mv.Stay OperateOnly End ∷ []
 
-abbrev pub xba : List Micro
-xba = none ∷ Cycle Idle act.Wait ∷ Cycle Idle (act.Apply one.Xba) ∷ []
+abbrev pub readNear : (w : Bool) → List Cycle
+readNear true = Present Near mv.Stay OperateLow On ∷ Present NearNext mv.Stay OperateHigh End ∷ []
+readNear false = Present Near mv.Stay OperateOnly End ∷ []
 
-abbrev pub mask : Bool → List Micro
-mask to = none ∷ Cycle Program (act.Mask to) ∷ Cycle Idle act.Finish ∷ []
+abbrev pub storeFar : (w : Bool) → List Cycle
+storeFar true = on StoreFar mv.Stay ∷ last StoreFarNext mv.Stay ∷ []
+storeFar false = last StoreFar mv.Stay ∷ []
 
-abbrev pub wdm : List Micro
-wdm = none ∷ Cycle Program act.Skip ∷ []
+abbrev pub storeNear : (w : Bool) → List Cycle
+storeNear true = on StoreNear mv.Stay ∷ last StoreNearNext mv.Stay ∷ []
+storeNear false = last StoreNear mv.Stay ∷ []
 
-abbrev pub push : Source → (w : Bool) → List Micro
-push k true = none ∷ Cycle Idle act.Wait ∷ Cycle (Push k High) act.Push ∷ Cycle (Push k Low) act.PushLast ∷ []
-push k false = none ∷ Cycle Idle act.Wait ∷ Cycle (Push k Only) act.PushLast ∷ []
+-- one byte, XBA, REP and SEP, WDM
+abbrev pub implied : List Cycle
+implied = Absent ∷ Present Idle mv.Stacked Apply End ∷ []
 
-abbrev pub pull : Reg → (w : Bool) → List Micro
-pull r true = none ∷ Cycle Idle act.Wait ∷ Cycle Idle act.Wait ∷ Cycle (Pulled Paged) (act.Pull r Low) ∷ Cycle (Pulled Paged) (act.Pull r High) ∷ []
-pull r false = none ∷ Cycle Idle act.Wait ∷ Cycle Idle act.Wait ∷ Cycle (Pulled Paged) (act.Pull r Only) ∷ []
+abbrev pub xba : List Cycle
+xba = Absent ∷ on Idle mv.Stay ∷ Present Idle mv.Stay Apply End ∷ []
 
-abbrev pub pullP : List Micro
-pullP = none ∷ Cycle Idle act.Wait ∷ Cycle Idle act.Wait ∷ Cycle (Pulled Paged) act.PullP ∷ []
+abbrev pub mask : List Cycle
+mask = Absent ∷ Present Program mv.Step Mask On ∷ last Idle mv.Stay ∷ []
 
-abbrev pub pullB : List Micro
-pullB = none ∷ Cycle Idle act.Wait ∷ Cycle Idle act.Wait ∷ Cycle (Pulled Raw) act.PullB ∷ []
+abbrev pub wdm : List Cycle
+wdm = Absent ∷ last Program mv.Step ∷ []
 
-abbrev pub pullD : List Micro
-pullD = none ∷ Cycle Idle act.Wait ∷ Cycle Idle act.Wait ∷ Cycle (Pulled Raw) act.PullDLow ∷ Cycle (Pulled Raw) act.PullDHigh ∷ []
+-- pushes and pulls
+abbrev pub push : (w : Bool) → List Cycle
+push true = Absent ∷ on Idle mv.Stay ∷ on PushHigh mv.PushRaw ∷ last PushLow mv.PushRaw ∷ []
+push false = Absent ∷ on Idle mv.Stay ∷ last PushLow mv.PushRaw ∷ []
+
+abbrev pub pulling : List Cycle → List Cycle
+pulling rest = Absent ∷ on Idle mv.Stay ∷ on Idle mv.Stay ∷ rest
+
+abbrev pub pull : (w : Bool) → List Cycle
+pull true = pulling (Present PullPaged mv.PullPaged PullLow On ∷ Present PullPaged mv.PullPaged PullHigh End ∷ [])
+pull false = pulling (Present PullPaged mv.PullPaged PullOnly End ∷ [])
+
+abbrev pub pullP : List Cycle
+pullP = pulling (Present PullPaged mv.PullPaged Status End ∷ [])
+
+abbrev pub pullB : List Cycle
+pullB = pulling (Present PullRaw mv.PullBank Sign End ∷ [])
+
+abbrev pub pullD : List Cycle
+pullD = pulling (Present PullRaw mv.PullRaw DirectLow On ∷ Present PullRaw mv.PullRaw DirectHigh End ∷ [])
 
 -- PEA, PEI and PER push what they have made, the high byte first
-abbrev pub pushMade : List Micro
-pushMade = Cycle (PushData High) act.Push ∷ Cycle (PushData Low) act.PushLast ∷ []
+abbrev pub pushMade : List Cycle
+pushMade = on PushDataHigh mv.PushRaw ∷ last PushDataLow mv.PushRaw ∷ []
 
-abbrev pub pea : List Micro
-pea = none ∷ Cycle Program act.DataLow ∷ Cycle Program act.DataHigh ∷ pushMade
+abbrev pub pea : List Cycle
+pea = Absent ∷ on Program mv.DataLow ∷ on Program mv.DataHigh ∷ pushMade
 
-abbrev pub pei : (d : Bool) → List Micro
-pei d = direct d (Cycle (Data Near false) act.ReadLow ∷ Cycle (Data Near true) act.ReadHigh ∷ pushMade)
+abbrev pub pei : (d : Bool) → List Cycle
+pei d = direct d (on Near mv.ReadLow ∷ on NearNext mv.ReadHigh ∷ pushMade)
 
-abbrev pub per : List Micro
-per = absolute (Cycle IdleBack act.Relative ∷ pushMade)
+abbrev pub per : List Cycle
+per = absolute (on IdleBack mv.Relative ∷ pushMade)
 
-abbrev pub jump : List Micro
-jump = none ∷ Cycle Program act.DataLow ∷ Cycle Program act.Jump ∷ []
+-- jumps
+abbrev pub jump : List Cycle
+jump = Absent ∷ on Program mv.DataLow ∷ last Program mv.JumpRead ∷ []
 
-abbrev pub jumpLong : List Micro
-jumpLong = absolute (Cycle Program act.JumpLong ∷ [])
+abbrev pub jumpLong : List Cycle
+jumpLong = absolute (Present Program mv.JumpAddr Keep EndByte ∷ [])
 
-abbrev pub jumpIndirect : List Micro
-jumpIndirect = absolute (Cycle (Data Near false) act.ReadLow ∷ Cycle (Data Near true) act.Jump ∷ [])
+abbrev pub jumpIndirect : List Cycle
+jumpIndirect = absolute (on Near mv.ReadLow ∷ last NearNext mv.JumpRead ∷ [])
 
-abbrev pub jumpIndirectLong : List Micro
-jumpIndirectLong = absolute (Cycle (Data Near false) act.ReadLow ∷ Cycle (Data Near true) act.ReadHigh ∷ Cycle Third act.JumpBank ∷ [])
+abbrev pub jumpIndirectLong : List Cycle
+jumpIndirectLong = absolute (on Near mv.ReadLow ∷ on NearNext mv.ReadHigh ∷ Present NearThird mv.JumpData Keep EndByte ∷ [])
 
-abbrev pub jumpIndexed : List Micro
-jumpIndexed = absolute (Cycle IdleBack act.Wait ∷ Cycle (Table false) act.ReadLow ∷ Cycle (Table true) act.Jump ∷ [])
+abbrev pub jumpIndexed : List Cycle
+jumpIndexed = absolute (on IdleBack mv.Stay ∷ on Table mv.ReadLow ∷ last TableNext mv.JumpRead ∷ [])
 
-abbrev pub call : List Micro
+-- calls and returns
+abbrev pub call : List Cycle
 call =
-    none ∷ Cycle Program act.AddrLow ∷ Cycle Program act.AddrLast ∷ Cycle Idle act.Wait
-    ∷ Cycle (PushPc High) act.PushPaged ∷ Cycle (PushPc Low) act.Call ∷ []
+    Absent ∷ on Program mv.AddrLow ∷ on Program mv.AddrLast ∷ on Idle mv.Stay
+    ∷ on PushPcHigh mv.PushPaged ∷ last PushPcLow mv.Call ∷ []
 
-abbrev pub callIndexed : List Micro
+abbrev pub callIndexed : List Cycle
 callIndexed =
-    none ∷ Cycle Program act.AddrLow ∷ Cycle (PushPc High) act.PushPaged ∷ Cycle (PushPc Low) act.PushPaged
-    ∷ Cycle Program act.AddrLast ∷ Cycle Idle act.Wait ∷ Cycle (Table false) act.ReadLow ∷ Cycle (Table true) act.Jump ∷ []
+    Absent ∷ on Program mv.AddrLow ∷ on PushPcHigh mv.PushPaged ∷ on PushPcLow mv.PushPaged
+    ∷ on Program mv.AddrLast ∷ on Idle mv.Stay ∷ on Table mv.ReadLow ∷ last TableNext mv.JumpRead ∷ []
 
-abbrev pub callLong : List Micro
-callLong = absolute (Cycle (Push of.Pbr Only) act.Push ∷ Cycle IdleStack act.Wait ∷ Cycle Program act.BankByte ∷ Cycle (PushPc High) act.Push ∷ Cycle (PushPc Low) act.CallLong ∷ [])
+abbrev pub callLong : List Cycle
+callLong =
+    absolute (on PushPbr mv.PushRaw ∷ on IdleStack mv.Stay ∷ on Program mv.BankByte
+    ∷ on PushPcHigh mv.PushRaw ∷ Present PushPcLow mv.Call Keep EndBank ∷ [])
 
-abbrev pub return : List Micro
-return = none ∷ Cycle Idle act.Wait ∷ Cycle Idle act.Wait ∷ Cycle (Pulled Paged) (act.PcLow Paged) ∷ Cycle (Pulled Paged) (act.PcHigh Paged) ∷ Cycle IdleHome act.Return ∷ []
+abbrev pub return : List Cycle
+return = pulling (on PullPaged mv.PcLowPaged ∷ on PullPaged mv.PcHighPaged ∷ last IdleHome mv.Step ∷ [])
 
-abbrev pub returnLong : List Micro
-returnLong = none ∷ Cycle Idle act.Wait ∷ Cycle Idle act.Wait ∷ Cycle (Pulled Home) (act.PcLow Home) ∷ Cycle (Pulled Raw) (act.PcHigh Raw) ∷ Cycle (Pulled Raw) act.ReturnLong ∷ []
+abbrev pub returnLong : List Cycle
+returnLong = pulling (on PullHome mv.PcLowHome ∷ on PullRaw mv.PcHighRaw ∷ Present PullRaw mv.ReturnLong Keep EndByte ∷ [])
 
 -- the third cycle takes a branch, and in emulation a fourth may follow: whatever the condition was and wherever it leads
-abbrev pub branch : Cond → (e : Bool) → List Micro
-branch k true = none ∷ Cycle Program (act.Branch k) ∷ Cycle Idle (act.Take true) ∷ Cycle IdleAfter act.Finish ∷ []
-branch k false = none ∷ Cycle Program (act.Branch k) ∷ Cycle Idle (act.Take false) ∷ []
+abbrev pub branch : (e : Bool) → List Cycle
+branch true = Absent ∷ Present Program mv.Branch Keep Taken ∷ Present Idle mv.Take Keep Crossed ∷ last IdleAfter mv.Stay ∷ []
+branch false = Absent ∷ Present Program mv.Branch Keep Taken ∷ last Idle mv.Take ∷ []
 
-abbrev pub branchLong : List Micro
-branchLong = none ∷ Cycle Program act.AddrLow ∷ Cycle Program act.AddrLast ∷ Cycle Idle act.TakeLong ∷ []
+abbrev pub branchLong : List Cycle
+branchLong = Absent ∷ on Program mv.AddrLow ∷ on Program mv.AddrLast ∷ last Idle mv.TakeLong ∷ []
 
-abbrev pub move : Bool → List Micro
-move ups =
-    Cycle Opcode act.Step ∷ Cycle Program act.MoveTo ∷ Cycle Program act.MoveFrom ∷ Cycle MoveRead act.ReadLow
-    ∷ Cycle MoveWrite act.MoveStore ∷ Cycle MoveIdle act.Wait ∷ Cycle MoveIdle (act.MoveEnd ups) ∷ []
+-- a byte of a move
+abbrev pub move : List Cycle
+move =
+    on Opcode mv.Step ∷ on Program mv.MoveTo ∷ on Program mv.MoveFrom ∷ on MoveRead mv.ReadLow
+    ∷ on MoveWrite mv.MoveStore ∷ on MoveIdle mv.Stay ∷ Present MoveIdle mv.MoveEnd MoveByte Moved ∷ []
 
-abbrev pub cyclesOf : Shape → (w d e : Bool) → List Micro
-cyclesOf (shape.Immediate k r) w d e = immediate k r w
-cyclesOf (shape.Absolute k r) w d e = absolute (read k r Far w)
-cyclesOf (shape.Direct k r) w d e = direct d (read k r Near w)
-cyclesOf (shape.StoreAbsolute k) w d e = absolute (store k Far w)
-cyclesOf (shape.StoreDirect k) w d e = direct d (store k Near w)
-cyclesOf (shape.Implied k) w d e = implied k
+abbrev pub cyclesOf : Shape → (w d e : Bool) → List Cycle
+cyclesOf shape.Immediate w d e = immediate w
+cyclesOf shape.Absolute w d e = absolute (readFar w)
+cyclesOf shape.Direct w d e = direct d (readNear w)
+cyclesOf shape.StoreAbsolute w d e = absolute (storeFar w)
+cyclesOf shape.StoreDirect w d e = direct d (storeNear w)
+cyclesOf shape.Implied w d e = implied
 cyclesOf shape.Xba w d e = xba
-cyclesOf (shape.Mask to) w d e = mask to
+cyclesOf shape.Mask w d e = mask
 cyclesOf shape.Wdm w d e = wdm
-cyclesOf (shape.Push k) w d e = push k w
-cyclesOf (shape.Pull r) w d e = pull r w
+cyclesOf shape.Push w d e = push w
+cyclesOf shape.Pull w d e = pull w
 cyclesOf shape.PullP w d e = pullP
 cyclesOf shape.PullB w d e = pullB
 cyclesOf shape.PullD w d e = pullD
@@ -175,51 +192,22 @@ cyclesOf shape.CallIndexed w d e = callIndexed
 cyclesOf shape.CallLong w d e = callLong
 cyclesOf shape.Return w d e = return
 cyclesOf shape.ReturnLong w d e = returnLong
-cyclesOf (shape.Branch k) w d e = branch k e
+cyclesOf shape.Branch w d e = branch e
 cyclesOf shape.BranchLong w d e = branchLong
-cyclesOf (shape.Move ups) w d e = move ups
+cyclesOf shape.Move w d e = move
 
--- what a shape's cycle does
-abbrev pub phaseOf : Shape → (w d e : Bool) → (tcu : ℕ) → Micro
-phaseOf s w d e tcu = getD (cyclesOf s w d e) tcu none
-
--- whether a shape is 16 bits wide, and whether D's low byte isn't 0
-abbrev pub wideOf : Shape → (m x : Bool) → Bool
-wideOf (shape.Immediate k r) m x = wideReg r m x
-wideOf (shape.Absolute k r) m x = wideReg r m x
-wideOf (shape.Direct k r) m x = wideReg r m x
-wideOf (shape.StoreAbsolute k) m x = wideSource k m x
-wideOf (shape.StoreDirect k) m x = wideSource k m x
-wideOf (shape.Push k) m x = wideSource k m x
-wideOf (shape.Pull r) m x = wideReg r m x
-wideOf (shape.Implied k) m x = false
-wideOf shape.Xba m x = false
-wideOf (shape.Mask to) m x = false
-wideOf shape.Wdm m x = false
-wideOf shape.PullP m x = false
-wideOf shape.PullB m x = false
-wideOf shape.PullD m x = false
-wideOf shape.Pea m x = false
-wideOf shape.Pei m x = false
-wideOf shape.Per m x = false
-wideOf shape.Jump m x = false
-wideOf shape.JumpLong m x = false
-wideOf shape.JumpIndirect m x = false
-wideOf shape.JumpIndirectLong m x = false
-wideOf shape.JumpIndexed m x = false
-wideOf shape.Call m x = false
-wideOf shape.CallIndexed m x = false
-wideOf shape.CallLong m x = false
-wideOf shape.Return m x = false
-wideOf shape.ReturnLong m x = false
-wideOf (shape.Branch k) m x = false
-wideOf shape.BranchLong m x = false
-wideOf (shape.Move ups) m x = false
+-- a shape's cycle
+abbrev pub phaseOf : Shape → (w d e : Bool) → (tcu : ℕ) → Cycle
+phaseOf s w d e tcu = getD (cyclesOf s w d e) tcu Absent
 
 abbrev pub unaligned : ℕ → Bool
 unaligned d = not (eqb (d % 256) 0)
 
--- what a held opcode's cycle does: refusal 5 for one that isn't listed, 6 for a cycle that it hasn't
+-- what a held opcode's cycle does: refusal 6 for a cycle that it hasn't, 5 for an opcode that isn't listed
+abbrev pub carrying : Operation → Cycle → Micro
+carrying o Absent = Refuse NoCycle
+carrying o (Present q m c t) = Held q m c t o
+
 abbrev pub heldMicro : Op → Flags → (d tcu : ℕ) → Micro
 heldMicro op.Unlisted f d tcu = Refuse Unlisted
-heldMicro (op.Listed s) f d tcu = phaseOf s (wideOf s (f .memsel) (f .indexsel)) (unaligned d) (f .emulation) tcu
+heldMicro (op.Listed s o) f d tcu = carrying o (phaseOf s (wideOf o (f .memsel) (f .indexsel)) (unaligned d) (f .emulation) tcu)

@@ -1,3 +1,2 @@
 // From a shape to what each of its cycles asks and does.
-pub mod operand;
 pub mod types;

@@ -1,89 +1,116 @@
 // What one cycle asks of the bus, and what it does with the byte that is answered.
-use alu::types::Alu;
-use cpu::types::Cond;
-use cpu::types::One;
-use cpu::types::Part;
 use cpu::types::Refusal;
-use cpu::types::Reg;
-use cpu::types::Source;
-use cpu::types::Stack;
+use opcodes::types::Operation;
 
-// Where data are.
-pub enum Place {
-    Far, // DBR and the address, a 24-bit sum
-    Near, // bank 0
-}
-
-// What a cycle puts on the bus. `second` is for the byte after.
+// What a cycle puts on the bus.
 pub enum Ask {
-    Program,
+    Program, // PBR:PC
     Idle, // PBR:PC
     IdleBack, // the operand's last byte, PC being past it
     IdleAfter, // a branch's address after the operand
     IdleStack, // JSL: S + 1
     IdleHome, // RTS: S, page 1 in emulation
     Opcode, // a move's opcode again
-    Data(Place, bool),
-    Third, // the bank of JMP [a]
-    Table(bool), // (a,x): in the program bank
-    Pulled(Stack),
-    Store(Source, Place, Part),
-    Push(Source, Part),
-    PushPc(Part),
-    PushData(Part),
+    Far, // DBR and the address
+    FarNext, // a 24-bit sum
+    Near, // bank 0
+    NearNext,
+    NearThird, // the bank of JMP [a]
+    Table, // (a,x): in the program bank
+    TableNext,
+    PullPaged,
+    PullRaw,
+    PullHome,
+    StoreFar,
+    StoreFarNext,
+    StoreNear,
+    StoreNearNext,
+    PushLow,
+    PushHigh,
+    PushPcLow,
+    PushPcHigh,
+    PushDataLow,
+    PushDataHigh,
+    PushPbr,
     MoveRead,
     MoveWrite,
     MoveIdle,
 }
 
-// What a cycle does with the byte.
-pub enum Act {
-    Wait,
-    Finish,
-    Skip, // WDM's byte
-    Step, // a move's opcode again
+// What a cycle does to PC, S, DBR and the scratch words.
+pub enum Move {
+    Stay,
+    Step,
     AddrLow,
-    Offset, // the direct address: D and the byte
     AddrHigh,
     AddrLast, // the high byte, with PC left on it
+    Offset, // the direct address: D and the byte
     DataLow,
     DataHigh,
     ReadLow,
     ReadHigh,
     BankByte,
-    Operand(Alu, Reg, Part),
-    Operate(Alu, Reg, Part),
-    Apply(One),
-    Mask(bool),
-    Pull(Reg, Part),
-    PullP,
-    PullB,
-    PullDLow,
-    PullDHigh,
-    Push, // `stack_push_raw`
+    PullPaged, // `stack_pop`
+    PullRaw, // `stack_pop_raw`
+    PullBank, // PLB
     PushPaged, // `stack_push`
-    PushLast,
+    PushRaw, // `stack_push_raw`
+    Stacked, // TXS, TCS
     Relative, // PER's sum
-    Jump,
-    JumpLong,
-    JumpBank,
+    JumpRead, // to the word that was read
+    JumpAddr, // to the operand
+    JumpData, // to the pointer
     Call,
-    CallLong,
-    PcLow(Stack),
-    PcHigh(Stack),
-    Return,
+    PcLowPaged,
+    PcLowHome,
+    PcHighPaged,
+    PcHighRaw,
     ReturnLong,
-    Branch(Cond),
-    Take(bool), // true: another page takes a cycle more
+    Branch,
+    Take,
     TakeLong,
     MoveTo,
     MoveFrom,
     MoveStore,
-    MoveEnd(bool),
+    MoveEnd,
+}
+
+// What a cycle does to A, X, Y, D and the flags.
+pub enum Change {
+    Keep,
+    OperateOnly,
+    OperateLow,
+    OperateHigh,
+    PullOnly,
+    PullLow,
+    PullHigh,
+    Apply,
+    Mask,
+    Status, // PLP
+    Sign, // PLB
+    DirectLow, // PLD
+    DirectHigh,
+    MoveByte,
+}
+
+// Where a cycle leads.
+pub enum To {
+    On, // the instruction's next cycle
+    End, // the next instruction's start
+    EndByte, // the same in the program bank that was read
+    EndBank, // the same in the one that is held
+    Taken, // on, if the branch is taken
+    Crossed, // on, if it leads to another page
+    Moved, // the end, or the move's next byte
+}
+
+pub enum Cycle {
+    Absent,
+    Present(Ask, Move, Change, To),
 }
 
 pub enum Micro {
     Refuse(Refusal),
     Fetch,
-    Cycle(Ask, Act),
+    Held(Ask, Move, Change, To, Operation),
 }

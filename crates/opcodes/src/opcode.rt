@@ -2,6 +2,7 @@
 ghost use mathlib.Core.Path.{_≡_};
 ghost use Rattle.opcodes.specs.Opcodes.{oneOf, columnOf, operationOf, bit5, indexOf, conditionOf, decodeOf, isListed};
 use crate::types::Op;
+use crate::types::Operation;
 use crate::types::Shape;
 use alu::types::Alu;
 use alu::types::Shift;
@@ -103,65 +104,75 @@ pub fn decode(op: u8) -> Op
     ensures { λ r. ⌜ r ≡ decodeOf op ⌝ }
 {
     match op {
-        0x09 | 0x29 | 0x49 | 0x69 | 0xA9 | 0xC9 | 0xE9 => Op::Listed(Shape::Immediate(
-            operation(op),
-            Reg::A,
-        )),
-        0x05 | 0x25 | 0x45 | 0x65 | 0xC5 | 0xE5 => Op::Listed(Shape::Direct(operation(op), Reg::A)),
-        0x0D | 0x2D | 0x4D | 0x6D | 0xCD | 0xED => Op::Listed(Shape::Absolute(
-            operation(op),
-            Reg::A,
-        )),
-        0x24 => Op::Listed(Shape::Direct(Alu::Bit, Reg::A)),
-        0x2C => Op::Listed(Shape::Absolute(Alu::Bit, Reg::A)),
-        0x89 => Op::Listed(Shape::Immediate(Alu::BitImmediate, Reg::A)),
-        0xA0 | 0xA2 => Op::Listed(Shape::Immediate(Alu::Load, column(op))),
-        0xA4..=0xA6 => Op::Listed(Shape::Direct(Alu::Load, column(op))),
-        0xAC..=0xAE => Op::Listed(Shape::Absolute(Alu::Load, column(op))),
-        0xC0 | 0xE0 => Op::Listed(Shape::Immediate(Alu::Cmp, index(op))),
-        0xC4 | 0xE4 => Op::Listed(Shape::Direct(Alu::Cmp, index(op))),
-        0xCC | 0xEC => Op::Listed(Shape::Absolute(Alu::Cmp, index(op))),
-        0x84..=0x86 => Op::Listed(Shape::StoreDirect(Source::Register(column(op)))),
-        0x8C..=0x8E => Op::Listed(Shape::StoreAbsolute(Source::Register(column(op)))),
-        0x64 => Op::Listed(Shape::StoreDirect(Source::Zero)),
-        0x9C => Op::Listed(Shape::StoreAbsolute(Source::Zero)),
-        0xEB => Op::Listed(Shape::Xba),
-        0xC2 => Op::Listed(Shape::Mask(false)),
-        0xE2 => Op::Listed(Shape::Mask(true)),
-        0x42 => Op::Listed(Shape::Wdm),
-        0x54 => Op::Listed(Shape::Move(true)),
-        0x44 => Op::Listed(Shape::Move(false)),
-        0x10 | 0x30 | 0x50 | 0x70 | 0x90 | 0xB0 | 0xD0 | 0xF0 => Op::Listed(Shape::Branch(condition(
-            op,
-        ))),
-        0x80 => Op::Listed(Shape::Branch(Cond::Always)),
-        0x82 => Op::Listed(Shape::BranchLong),
-        0x4C => Op::Listed(Shape::Jump),
-        0x6C => Op::Listed(Shape::JumpIndirect),
-        0x7C => Op::Listed(Shape::JumpIndexed),
-        0x5C => Op::Listed(Shape::JumpLong),
-        0xDC => Op::Listed(Shape::JumpIndirectLong),
-        0x20 => Op::Listed(Shape::Call),
-        0xFC => Op::Listed(Shape::CallIndexed),
-        0x22 => Op::Listed(Shape::CallLong),
-        0x60 => Op::Listed(Shape::Return),
-        0x6B => Op::Listed(Shape::ReturnLong),
-        0x48 => Op::Listed(Shape::Push(Source::Register(Reg::A))),
-        0xDA => Op::Listed(Shape::Push(Source::Register(Reg::X))),
-        0x5A => Op::Listed(Shape::Push(Source::Register(Reg::Y))),
-        0x08 => Op::Listed(Shape::Push(Source::P)),
-        0x8B => Op::Listed(Shape::Push(Source::Dbr)),
-        0x0B => Op::Listed(Shape::Push(Source::D)),
-        0x4B => Op::Listed(Shape::Push(Source::Pbr)),
-        0x68 => Op::Listed(Shape::Pull(Reg::A)),
-        0xFA => Op::Listed(Shape::Pull(Reg::X)),
-        0x7A => Op::Listed(Shape::Pull(Reg::Y)),
-        0x28 => Op::Listed(Shape::PullP),
-        0xAB => Op::Listed(Shape::PullB),
-        0x2B => Op::Listed(Shape::PullD),
-        0xF4 => Op::Listed(Shape::Pea),
-        0xD4 => Op::Listed(Shape::Pei),
-        0x62 => Op::Listed(Shape::Per),
+        0x09 | 0x29 | 0x49 | 0x69 | 0xA9 | 0xC9 | 0xE9 => Op::Listed(
+            Shape::Immediate,
+            Operation::Read(operation(op), Reg::A),
+        ),
+        0x05 | 0x25 | 0x45 | 0x65 | 0xC5 | 0xE5 => Op::Listed(
+            Shape::Direct,
+            Operation::Read(operation(op), Reg::A),
+        ),
+        0x0D | 0x2D | 0x4D | 0x6D | 0xCD | 0xED => Op::Listed(
+            Shape::Absolute,
+            Operation::Read(operation(op), Reg::A),
+        ),
+        0x24 => Op::Listed(Shape::Direct, Operation::Read(Alu::Bit, Reg::A)),
+        0x2C => Op::Listed(Shape::Absolute, Operation::Read(Alu::Bit, Reg::A)),
+        0x89 => Op::Listed(Shape::Immediate, Operation::Read(Alu::BitImmediate, Reg::A)),
+        0xA0 | 0xA2 => Op::Listed(Shape::Immediate, Operation::Read(Alu::Load, column(op))),
+        0xA4..=0xA6 => Op::Listed(Shape::Direct, Operation::Read(Alu::Load, column(op))),
+        0xAC..=0xAE => Op::Listed(Shape::Absolute, Operation::Read(Alu::Load, column(op))),
+        0xC0 | 0xE0 => Op::Listed(Shape::Immediate, Operation::Read(Alu::Cmp, index(op))),
+        0xC4 | 0xE4 => Op::Listed(Shape::Direct, Operation::Read(Alu::Cmp, index(op))),
+        0xCC | 0xEC => Op::Listed(Shape::Absolute, Operation::Read(Alu::Cmp, index(op))),
+        0x84..=0x86 => Op::Listed(
+            Shape::StoreDirect,
+            Operation::Give(Source::Register(column(op))),
+        ),
+        0x8C..=0x8E => Op::Listed(
+            Shape::StoreAbsolute,
+            Operation::Give(Source::Register(column(op))),
+        ),
+        0x64 => Op::Listed(Shape::StoreDirect, Operation::Give(Source::Zero)),
+        0x9C => Op::Listed(Shape::StoreAbsolute, Operation::Give(Source::Zero)),
+        0xEB => Op::Listed(Shape::Xba, Operation::Do(One::Xba)),
+        0xC2 => Op::Listed(Shape::Mask, Operation::Flag(false)),
+        0xE2 => Op::Listed(Shape::Mask, Operation::Flag(true)),
+        0x42 => Op::Listed(Shape::Wdm, Operation::Plain),
+        0x54 => Op::Listed(Shape::Move, Operation::Flag(true)),
+        0x44 => Op::Listed(Shape::Move, Operation::Flag(false)),
+        0x10 | 0x30 | 0x50 | 0x70 | 0x90 | 0xB0 | 0xD0 | 0xF0 => Op::Listed(
+            Shape::Branch,
+            Operation::If(condition(op)),
+        ),
+        0x80 => Op::Listed(Shape::Branch, Operation::If(Cond::Always)),
+        0x82 => Op::Listed(Shape::BranchLong, Operation::Plain),
+        0x4C => Op::Listed(Shape::Jump, Operation::Plain),
+        0x6C => Op::Listed(Shape::JumpIndirect, Operation::Plain),
+        0x7C => Op::Listed(Shape::JumpIndexed, Operation::Plain),
+        0x5C => Op::Listed(Shape::JumpLong, Operation::Plain),
+        0xDC => Op::Listed(Shape::JumpIndirectLong, Operation::Plain),
+        0x20 => Op::Listed(Shape::Call, Operation::Plain),
+        0xFC => Op::Listed(Shape::CallIndexed, Operation::Plain),
+        0x22 => Op::Listed(Shape::CallLong, Operation::Plain),
+        0x60 => Op::Listed(Shape::Return, Operation::Plain),
+        0x6B => Op::Listed(Shape::ReturnLong, Operation::Plain),
+        0x48 => Op::Listed(Shape::Push, Operation::Give(Source::Register(Reg::A))),
+        0xDA => Op::Listed(Shape::Push, Operation::Give(Source::Register(Reg::X))),
+        0x5A => Op::Listed(Shape::Push, Operation::Give(Source::Register(Reg::Y))),
+        0x08 => Op::Listed(Shape::Push, Operation::Give(Source::P)),
+        0x8B => Op::Listed(Shape::Push, Operation::Give(Source::Dbr)),
+        0x0B => Op::Listed(Shape::Push, Operation::Give(Source::D)),
+        0x4B => Op::Listed(Shape::Push, Operation::Give(Source::Pbr)),
+        0x68 => Op::Listed(Shape::Pull, Operation::Take(Reg::A)),
+        0xFA => Op::Listed(Shape::Pull, Operation::Take(Reg::X)),
+        0x7A => Op::Listed(Shape::Pull, Operation::Take(Reg::Y)),
+        0x28 => Op::Listed(Shape::PullP, Operation::Plain),
+        0xAB => Op::Listed(Shape::PullB, Operation::Plain),
+        0x2B => Op::Listed(Shape::PullD, Operation::Plain),
+        0xF4 => Op::Listed(Shape::Pea, Operation::Plain),
+        0xD4 => Op::Listed(Shape::Pei, Operation::Plain),
+        0x62 => Op::Listed(Shape::Per, Operation::Plain),
         0x0A
         | 0x18
         | 0x1A
@@ -185,8 +196,11 @@ pub fn decode(op: u8) -> Op
         | 0xD8
         | 0xE8
         | 0xEA
-        | 0xF8 => Op::Listed(Shape::Implied(one_byte(op))),
-        0x1B | 0x3B | 0x5B | 0x7B | 0x9B | 0xBB | 0xFB => Op::Listed(Shape::Implied(one_byte(op))),
+        | 0xF8 => Op::Listed(Shape::Implied, Operation::Do(one_byte(op))),
+        0x1B | 0x3B | 0x5B | 0x7B | 0x9B | 0xBB | 0xFB => Op::Listed(
+            Shape::Implied,
+            Operation::Do(one_byte(op)),
+        ),
         _ => Op::Unlisted,
     }
 }

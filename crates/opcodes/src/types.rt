@@ -1,4 +1,4 @@
-// An opcode's shape, with its operation.
+// An opcode: its shape, which gives its bus cycles, and the operation that these carry out.
 use alu::types::Alu;
 use cpu::types::Cond;
 use cpu::types::One;
@@ -6,17 +6,17 @@ use cpu::types::Reg;
 use cpu::types::Source;
 
 pub enum Shape {
-    Immediate(Alu, Reg),
-    Absolute(Alu, Reg),
-    Direct(Alu, Reg),
-    StoreAbsolute(Source),
-    StoreDirect(Source),
-    Implied(One),
+    Immediate,
+    Absolute,
+    Direct,
+    StoreAbsolute,
+    StoreDirect,
+    Implied,
     Xba,
-    Mask(bool), // REP: false, SEP: true
+    Mask, // REP, SEP
     Wdm,
-    Push(Source),
-    Pull(Reg),
+    Push,
+    Pull,
     PullP,
     PullB,
     PullD,
@@ -33,12 +33,22 @@ pub enum Shape {
     CallLong,
     Return,
     ReturnLong,
-    Branch(Cond),
+    Branch,
     BranchLong,
-    Move(bool), // MVN, upwards: true, MVP: false
+    Move, // MVN, MVP
+}
+
+pub enum Operation {
+    Plain,
+    Read(Alu, Reg), // an operation between a register and what is read
+    Give(Source), // what is stored or pushed
+    Take(Reg), // what is pulled
+    Do(One),
+    If(Cond),
+    Flag(bool), // REP: false, SEP: true; MVP, downwards: false, MVN, upwards: true
 }
 
 pub enum Op {
     Unlisted,
-    Listed(Shape),
+    Listed(Shape, Operation),
 }

@@ -9,39 +9,37 @@ use lib.Dec.{eqb, ltb}
 use lib.ListN.{getD}
 use borrow.Author.Tests.{ne-eqb, lt-ltb, ltb-true}
 use Rattle.words.specs.Words.{pick, implied, lowSet, inc, dec}
-use Rattle.flags.specs.Flags.{setNZ}
 use Rattle.flags.specs.declared.Flags.{Flags}
 use Rattle.alu.specs.Alu.{nz, summed, adcByte, sbcByte, cmpByte, andByte, oraByte, eorByte, bitByte, loadByte, operated}
 use Rattle.alu.specs.declared.types.Alu.{Alu}
 use Rattle.alu.specs.declared.types.Alu.the-variants.{Adc, Sbc, Cmp, And, Ora, Eor, Bit, BitImmediate, Load}
 use Rattle.alu.specs.declared.types.Byte.{Byte}
-use Rattle.cpu.specs.Registers.{get, operates, pulls, changed, first, top, half}
+use Rattle.cpu.specs.Registers.{operates, pulls, half}
 use Rattle.cpu.specs.Record.{isMove, widthsSet, indexSmall, narrowed, clean, wellFormed, midOf, regsOf, underWay, ended}
 use Rattle.cpu.specs.declared.types.Record.{Record}
 use Rattle.cpu.specs.declared.types.Mid.{Mid}
 use Rattle.cpu.specs.declared.types.Regs.{Regs}
 use Rattle.cpu.specs.declared.types.Reg.{Reg}
 use Rattle.cpu.specs.declared.types.Reg.the-variants.{A, X, Y}
-use Rattle.cpu.specs.declared.types.Part.{Part}
 use Rattle.cpu.specs.declared.types.Part.the-variants.{Only, Low, High}
-use Rattle.cpu.specs.declared.types.Change.{Change}
-use Rattle.cpu.specs.declared.types.Change.the-variants as change
 use Rattle.cpu.specs.declared.types.Request.{Request}
-use Rattle.cpu.specs.declared.types.Asked.{Asked}
-use Rattle.cpu.specs.declared.types.Asked.the-variants.{Ask, No}
-use Rattle.cpu.specs.declared.types.Answer.{Answer}
+use Rattle.cpu.specs.declared.types.Asked.the-variants.{Ask}
 use Rattle.cpu.specs.declared.types.Answer.the-variants.{Next, Refused}
-use Rattle.opcodes.specs.Opcodes.{decodeOf}
+use Rattle.cpu.specs.declared.types.Refusal.the-variants.{NoCycle}
+use Rattle.opcodes.specs.Opcodes.{decodeOf, aluOf, regOf, wideOf}
 use Rattle.opcodes.specs.declared.types.Op.the-variants.{Listed}
+use Rattle.opcodes.specs.declared.types.Operation.{Operation}
 use Rattle.opcodes.specs.declared.types.Shape.{Shape}
-use Rattle.cycles.specs.Cycles.{none, cyclesOf, wideOf, unaligned}
+use Rattle.cycles.specs.Cycles.{cyclesOf, unaligned, carrying}
+use Rattle.cycles.specs.declared.types.Change.{Change}
+use Rattle.cycles.specs.declared.types.Change.the-variants.{Keep, OperateOnly, OperateLow, OperateHigh, PullOnly, PullLow, PullHigh, Apply, Mask, Status, Sign, DirectLow, DirectHigh, MoveByte}
+use Rattle.cycles.specs.declared.types.Cycle.{Cycle}
+use Rattle.cycles.specs.declared.types.Cycle.the-variants.{Absent, Present}
 use Rattle.cycles.specs.declared.types.Micro.{Micro}
-use Rattle.cycles.specs.declared.types.Micro.the-variants.{Refuse, Fetch, Cycle}
 use Rattle.bus.specs.Bus.{askOf}
-use Rattle.act.specs.Act.{stepOf, arrived, actOf, nextCycle}
-use Rattle.act.specs.declared.types.To.{To}
-use Rattle.act.specs.declared.types.To.the-variants.{On, End, Again}
-use Rattle.act.specs.declared.types.Goes.{Goes}
+use Rattle.act.specs.Act.{midAfter, regsAfter, wayOf, arrived, nextCycle}
+use Rattle.act.specs.declared.types.Way.{Way}
+use Rattle.act.specs.declared.types.Way.the-variants.{On, End, Again}
 use Rattle.step.specs.Cycle.{microOf, askedBy, answeredBy, requestOf, answerOf}
 use Rattle.sheet.specs.Run.{Ran, only, also, after, later, run}
 
@@ -75,28 +73,20 @@ both-true false b h k = h
 
 -- ---- changes that keep every width and mode, and D
 abbrev pub steady : Change → Bool
-steady change.Nothing = true
-steady (change.Operate k r Low b) = true
-steady (change.Operate k r Only b) = false
-steady (change.Operate k r High b) = false
-steady (change.Pull r Low b) = true
-steady (change.Pull r Only b) = false
-steady (change.Pull r High b) = false
-steady (change.Transfer r v) = false
-steady (change.Whole v) = false
-steady (change.DirectLow b) = false
-steady (change.Direct v) = false
-steady (change.Accumulator k) = false
-steady change.Swap = false
-steady (change.Carry c) = false
-steady (change.Interrupt i) = false
-steady (change.Decimal d) = false
-steady change.Clv = false
-steady change.Exchange = false
-steady (change.Mask to b) = false
-steady (change.Status b) = false
-steady (change.Sign b) = false
-steady (change.Move ups) = false
+steady Keep = true
+steady OperateLow = true
+steady PullLow = true
+steady OperateOnly = false
+steady OperateHigh = false
+steady PullOnly = false
+steady PullHigh = false
+steady Apply = false
+steady Mask = false
+steady Status = false
+steady Sign = false
+steady DirectLow = false
+steady DirectHigh = false
+steady MoveByte = false
 
 -- flags of the same widths and mode
 pub record Kept (f h : Flags) : Type 0 where
@@ -135,9 +125,9 @@ narrow-y true x y b h =
 narrow-y false x y b h = refl
 
 -- the registers are narrow where the index flag says so, and choose this list
-pub record Fits (s : Shape) (cs : List Micro) (g : Regs) : Type 0 where
+pub record Fits (s : Shape) (o : Operation) (cs : List Cycle) (g : Regs) : Type 0 where
   pub narrow : narrowed (g .flags) (g .x) (g .y) ≡ true
-  pub list : cyclesOf s (wideOf s (g .flags .memsel) (g .flags .indexsel)) (unaligned (g .d)) (g .flags .emulation) ≡ cs
+  pub list : cyclesOf s (wideOf o (g .flags .memsel) (g .flags .indexsel)) (unaligned (g .d)) (g .flags .emulation) ≡ cs
 
 pub widths-of : (g : Regs) → narrowed (g .flags) (g .x) (g .y) ≡ true → widthsSet (g .flags) ≡ true
 widths-of g h = and-left (widthsSet (g .flags)) (indexSmall (g .flags) (g .x) (g .y)) h
@@ -147,7 +137,7 @@ index-of g h = and-right (widthsSet (g .flags)) (indexSmall (g .flags) (g .x) (g
 
 -- another low byte in a register, and flags of the same widths and mode
 low-narrow : (r : Reg) (b : ℕ) (f : Flags) (g : Regs) → Kept (g .flags) f → narrowed (g .flags) (g .x) (g .y) ≡ true
-    → let h : Regs = changed (change.Pull r Low b) g in narrowed f (h .x) (h .y) ≡ true
+    → let h : Regs = pulls r Low b g in narrowed f (h .x) (h .y) ≡ true
 unfolding pulls
 low-narrow A b f g k h = rw (k .m, k .x, k .e) h
 low-narrow X b f g k h =
@@ -157,100 +147,99 @@ low-narrow Y b f g k h =
     rw (k .m, k .x, k .e)
     (both-true (widthsSet (g .flags)) (indexSmall (g .flags) (g .x) (lowSet (g .y) b)) (widths-of g h) (narrow-y (g .flags .indexsel) (g .x) (g .y) b (index-of g h)))
 
-pub steady-fits : (s : Shape) (cs : List Micro) (c : Change) (g : Regs) → steady c ≡ true → Fits s cs g → Fits s cs (changed c g)
-unfolding operates pulls
-steady-fits s cs change.Nothing g e h = h
-steady-fits s cs (change.Operate k A Low b) g e h =
-    let o : Byte = operated k true false (half Low (g .a)) b (g .flags) in
-    let w = operated-keeps k true false (half Low (g .a)) b (g .flags) in
-    record { narrow = low-narrow A (o .byte) (o .flags) g w (h .narrow); list = rw (w .m, w .x, w .e) (h .list) }
-steady-fits s cs (change.Operate k X Low b) g e h =
-    let o : Byte = operated k true false (half Low (g .x)) b (g .flags) in
-    let w = operated-keeps k true false (half Low (g .x)) b (g .flags) in
-    record { narrow = low-narrow X (o .byte) (o .flags) g w (h .narrow); list = rw (w .m, w .x, w .e) (h .list) }
-steady-fits s cs (change.Operate k Y Low b) g e h =
-    let o : Byte = operated k true false (half Low (g .y)) b (g .flags) in
-    let w = operated-keeps k true false (half Low (g .y)) b (g .flags) in
-    record { narrow = low-narrow Y (o .byte) (o .flags) g w (h .narrow); list = rw (w .m, w .x, w .e) (h .list) }
-steady-fits s cs (change.Pull A Low b) g e h = record { narrow = low-narrow A b (g .flags) g same-flags (h .narrow); list = h .list }
-steady-fits s cs (change.Pull X Low b) g e h = record { narrow = low-narrow X b (g .flags) g same-flags (h .narrow); list = h .list }
-steady-fits s cs (change.Pull Y Low b) g e h = record { narrow = low-narrow Y b (g .flags) g same-flags (h .narrow); list = h .list }
-steady-fits s cs (change.Operate k r Only b) g e h = absurd (false-true e)
-steady-fits s cs (change.Operate k r High b) g e h = absurd (false-true e)
-steady-fits s cs (change.Pull r Only b) g e h = absurd (false-true e)
-steady-fits s cs (change.Pull r High b) g e h = absurd (false-true e)
-steady-fits s cs (change.Transfer r v) g e h = absurd (false-true e)
-steady-fits s cs (change.Whole v) g e h = absurd (false-true e)
-steady-fits s cs (change.DirectLow b) g e h = absurd (false-true e)
-steady-fits s cs (change.Direct v) g e h = absurd (false-true e)
-steady-fits s cs (change.Accumulator k) g e h = absurd (false-true e)
-steady-fits s cs change.Swap g e h = absurd (false-true e)
-steady-fits s cs (change.Carry c) g e h = absurd (false-true e)
-steady-fits s cs (change.Interrupt i) g e h = absurd (false-true e)
-steady-fits s cs (change.Decimal d) g e h = absurd (false-true e)
-steady-fits s cs change.Clv g e h = absurd (false-true e)
-steady-fits s cs change.Exchange g e h = absurd (false-true e)
-steady-fits s cs (change.Mask to b) g e h = absurd (false-true e)
-steady-fits s cs (change.Status b) g e h = absurd (false-true e)
-steady-fits s cs (change.Sign b) g e h = absurd (false-true e)
-steady-fits s cs (change.Move ups) g e h = absurd (false-true e)
+module _ (s : Shape) (o : Operation) (cs : List Cycle) where
+  operate-fits : (k : Alu) (r : Reg) (b : ℕ) (g : Regs) → Fits s o cs g → Fits s o cs (operates k r Low b g)
+  unfolding operates pulls
+  operate-fits k A b g h =
+      let p : Byte = operated k true false (half Low (g .a)) b (g .flags) in
+      let w = operated-keeps k true false (half Low (g .a)) b (g .flags) in
+      record { narrow = low-narrow A (p .byte) (p .flags) g w (h .narrow); list = rw (w .m, w .x, w .e) (h .list) }
+  operate-fits k X b g h =
+      let p : Byte = operated k true false (half Low (g .x)) b (g .flags) in
+      let w = operated-keeps k true false (half Low (g .x)) b (g .flags) in
+      record { narrow = low-narrow X (p .byte) (p .flags) g w (h .narrow); list = rw (w .m, w .x, w .e) (h .list) }
+  operate-fits k Y b g h =
+      let p : Byte = operated k true false (half Low (g .y)) b (g .flags) in
+      let w = operated-keeps k true false (half Low (g .y)) b (g .flags) in
+      record { narrow = low-narrow Y (p .byte) (p .flags) g w (h .narrow); list = rw (w .m, w .x, w .e) (h .list) }
+
+  pull-fits : (r : Reg) (b : ℕ) (g : Regs) → Fits s o cs g → Fits s o cs (pulls r Low b g)
+  unfolding pulls
+  pull-fits A b g h = record { narrow = low-narrow A b (g .flags) g same-flags (h .narrow); list = h .list }
+  pull-fits X b g h = record { narrow = low-narrow X b (g .flags) g same-flags (h .narrow); list = h .list }
+  pull-fits Y b g h = record { narrow = low-narrow Y b (g .flags) g same-flags (h .narrow); list = h .list }
+
+  pub steady-fits : (c : Change) (k : Operation) (r : Record) (b : ℕ) → steady c ≡ true → Fits s o cs (regsOf r) → Fits s o cs (regsAfter c k r b)
+  steady-fits Keep k r b e h = h
+  steady-fits OperateLow k r b e h = operate-fits (aluOf k) (regOf k) b (regsOf r) h
+  steady-fits PullLow k r b e h = pull-fits (regOf k) b (regsOf r) h
+  steady-fits OperateOnly k r b e h = absurd (false-true e)
+  steady-fits OperateHigh k r b e h = absurd (false-true e)
+  steady-fits PullOnly k r b e h = absurd (false-true e)
+  steady-fits PullHigh k r b e h = absurd (false-true e)
+  steady-fits Apply k r b e h = absurd (false-true e)
+  steady-fits Mask k r b e h = absurd (false-true e)
+  steady-fits Status k r b e h = absurd (false-true e)
+  steady-fits Sign k r b e h = absurd (false-true e)
+  steady-fits DirectLow k r b e h = absurd (false-true e)
+  steady-fits DirectHigh k r b e h = absurd (false-true e)
+  steady-fits MoveByte k r b e h = absurd (false-true e)
 
 -- ---- what a record under way does next
-pub micro-under-way : (ir j pbr : ℕ) (g : Regs) (t : Mid) (s : Shape) (cs : List Micro) → Fits s cs g → decodeOf ir ≡ Listed s
-    → microOf (underWay ir (suc j) pbr g t) ≡ getD cs (suc j) none
+pub micro-under-way : (ir j pbr : ℕ) (g : Regs) (t : Mid) (s : Shape) (o : Operation) (cs : List Cycle) → Fits s o cs g → decodeOf ir ≡ Listed s o
+    → microOf (underWay ir (suc j) pbr g t) ≡ carrying o (getD cs (suc j) Absent)
 unfolding microOf
-micro-under-way ir j pbr g t s cs h k = rw (well-under-way ir j pbr g t (h .narrow), k, h .list)
+micro-under-way ir j pbr g t s o cs h k = rw (well-under-way ir j pbr g t (h .narrow), k, h .list)
 
 -- ---- the walk
-module _ (cs : List Micro) (ir : ℕ) where
+module _ (o : Operation) (cs : List Cycle) (ir : ℕ) where
   -- one step of it: `f` goes on along the list, `h` looks it up again
-  abbrev pub stepTo : Record → Request → Goes → To → (ℕ → Regs → Mid → Ran) → (Record → Ran) → Ran
-  stepTo u q g On f h = also q (pick (steady (g .change)) (f (g .pbr) (changed (g .change) (regsOf u)) (g .mid)) (h (arrived u g On)))
-  stepTo u q g End f h = only q (Next (arrived u g End))
-  stepTo u q g Again f h = only q (Next (arrived u g Again))
+  abbrev pub stepTo : (tcu : ℕ) → Request → Change → Way → Regs → Mid → (ℕ → Regs → Mid → Ran) → (Record → Ran) → Ran
+  stepTo tcu q c (On pbr) g t f h = also q (pick (steady c) (f pbr g t) (h (arrived (On pbr) ir tcu g t)))
+  stepTo tcu q c (End pbr) g t f h = only q (Next (arrived (End pbr) ir tcu g t))
+  stepTo tcu q c (Again pbr) g t f h = only q (Next (arrived (Again pbr) ir tcu g t))
 
-  abbrev pub stepBy : Micro → Record → ℕ → (ℕ → Regs → Mid → Ran) → (Record → Ran) → Ran
-  stepBy (Refuse n) u b f h = record { requests = []; out = Refused n }
-  stepBy Fetch u b f h = after (askedBy Fetch u) (answeredBy Fetch u b) h
-  stepBy (Cycle q k) u b f h = stepTo u (askOf q u) (stepOf k u b) (stepOf k u b .to) f h
+  abbrev pub stepBy : Cycle → (tcu : ℕ) → Record → ℕ → (ℕ → Regs → Mid → Ran) → (Record → Ran) → Ran
+  stepBy Absent tcu u b f h = record { requests = []; out = Refused NoCycle }
+  stepBy (Present q m c t) tcu u b f h = stepTo tcu (askOf q o u) c (wayOf t o u b) (regsAfter c o u b) (midAfter m o u b) f h
 
   unfoldable pub walk : (n : ℕ) → (ℕ → ℕ) → (tcu pbr : ℕ) → Regs → Mid → Ran
   walk zero b tcu pbr g t = record { requests = []; out = Next (underWay ir tcu pbr g t) }
-  walk (suc n) b tcu pbr g t = stepBy (getD cs tcu none) (underWay ir tcu pbr g t) (b 0) (walk n (later b) (nextCycle tcu)) (run n (later b))
+  walk (suc n) b tcu pbr g t = stepBy (getD cs tcu Absent) tcu (underWay ir tcu pbr g t) (b 0) (walk n (later b) (nextCycle tcu)) (run n (later b))
 
 -- a run and the walk make the same step, where they go on alike
-module _ (s : Shape) (cs : List Micro) (ir tcu : ℕ) (u : Record) (held : u .ir ≡ ir) (at : u .tcu ≡ tcu) (fits : Fits s cs (regsOf u))
-    (f : ℕ → Regs → Mid → Ran) (h : Record → Ran)
-    (alike : (pbr : ℕ) (g : Regs) (t : Mid) → Fits s cs g → h (underWay ir (nextCycle tcu) pbr g t) ≡ f pbr g t) where
-  to-same : (q : Request) (g : Goes) (k : To) → after (Ask q) (Next (arrived u g k)) h ≡ stepTo cs ir u q g k f h
-  unfolding ended
-  to-same q g On = rw (not-zero (u .tcu % 8)) (ap (also q) (go (steady (g .change)) refl))
-    where
-      go : (b : Bool) → steady (g .change) ≡ b
-          → h (arrived u g On) ≡ pick (steady (g .change)) (f (g .pbr) (changed (g .change) (regsOf u)) (g .mid)) (h (arrived u g On))
-      go true e = rw (e, held, at) (alike (g .pbr) (changed (g .change) (regsOf u)) (g .mid) (steady-fits s cs (g .change) (regsOf u) e fits))
-      go false e = rw e
-  to-same q g End = refl
-  to-same q g Again = refl
+module _ (s : Shape) (o : Operation) (cs : List Cycle) (ir tcu pbr : ℕ) (g : Regs) (t : Mid) (fits : Fits s o cs g) (f : ℕ → Regs → Mid → Ran) (h : Record → Ran)
+    (alike : (pbr : ℕ) (g : Regs) (t : Mid) → Fits s o cs g → h (underWay ir (nextCycle tcu) pbr g t) ≡ f pbr g t) where
+  abbrev u : Record
+  u = underWay ir tcu pbr g t
 
-  by-same : (m : Micro) (b : ℕ) → after (askedBy m u) (answeredBy m u b) h ≡ stepBy cs ir m u b f h
-  unfolding actOf
-  by-same (Refuse n) b = refl
-  by-same Fetch b = refl
-  by-same (Cycle q k) b = to-same (askOf q u) (stepOf k u b) (stepOf k u b .to)
+  to-same : (q : Request) (c : Change) (b : ℕ) (w : Way) (t′ : Mid)
+      → after (Ask q) (Next (arrived w ir tcu (regsAfter c o u b) t′)) h ≡ stepTo o cs ir tcu q c w (regsAfter c o u b) t′ f h
+  unfolding ended
+  to-same q c b (On p) t′ = rw (not-zero (tcu % 8)) (ap (also q) (go (steady c) refl))
+    where
+      go : (v : Bool) → steady c ≡ v
+          → h (arrived (On p) ir tcu (regsAfter c o u b) t′) ≡ pick (steady c) (f p (regsAfter c o u b) t′) (h (arrived (On p) ir tcu (regsAfter c o u b) t′))
+      go true e = rw e (alike p (regsAfter c o u b) t′ (steady-fits s o cs c o u b e fits))
+      go false e = rw e
+  to-same q c b (End p) t′ = refl
+  to-same q c b (Again p) t′ = refl
+
+  by-same : (x : Cycle) (b : ℕ) → after (askedBy (carrying o x) u) (answeredBy (carrying o x) u b) h ≡ stepBy o cs ir x tcu u b f h
+  by-same Absent b = refl
+  by-same (Present q m c k) b = to-same (askOf q o u) c b (wayOf k o u b) (midAfter m o u b)
 
 pub cycle-is : (u : Record) (b : ℕ) (f : Record → Ran) (m : Micro) → microOf u ≡ m
     → after (requestOf u) (answerOf u b) f ≡ after (askedBy m u) (answeredBy m u b) f
 unfolding requestOf answerOf
 cycle-is u b f m e = ap (λ (x : Micro). after (askedBy x u) (answeredBy x u b) f) e
 
-pub run-walks : (n : ℕ) (b : ℕ → ℕ) (ir j pbr : ℕ) (g : Regs) (t : Mid) (s : Shape) (cs : List Micro) → Fits s cs g → decodeOf ir ≡ Listed s
-    → run n b (underWay ir (suc j) pbr g t) ≡ walk cs ir n b (suc j) pbr g t
+pub run-walks : (n : ℕ) (b : ℕ → ℕ) (ir j pbr : ℕ) (g : Regs) (t : Mid) (s : Shape) (o : Operation) (cs : List Cycle) → Fits s o cs g → decodeOf ir ≡ Listed s o
+    → run n b (underWay ir (suc j) pbr g t) ≡ walk o cs ir n b (suc j) pbr g t
 unfolding run walk
-run-walks zero b ir j pbr g t s cs h k = refl
-run-walks (suc n) b ir j pbr g t s cs h k =
-    let u : Record = underWay ir (suc j) pbr g t in
-    let m : Micro = getD cs (suc j) none in
-    cycle-is u (b 0) (run n (later b)) m (micro-under-way ir j pbr g t s cs h k)
-    ∙ by-same s cs ir (suc j) u refl refl h (walk cs ir n (later b) (nextCycle (suc j))) (run n (later b))
-    (λ pbr′ g′ t′ fits. run-walks n (later b) ir (suc j % 8) pbr′ g′ t′ s cs fits k) m (b 0)
+run-walks zero b ir j pbr g t s o cs h k = refl
+run-walks (suc n) b ir j pbr g t s o cs h k =
+    let x : Cycle = getD cs (suc j) Absent in
+    cycle-is (underWay ir (suc j) pbr g t) (b 0) (run n (later b)) (carrying o x) (micro-under-way ir j pbr g t s o cs h k)
+    ∙ by-same s o cs ir (suc j) pbr g t h (walk o cs ir n (later b) (nextCycle (suc j))) (run n (later b))
+    (λ pbr′ g′ t′ fits. run-walks n (later b) ir (suc j % 8) pbr′ g′ t′ s o cs fits k) x (b 0)

@@ -6,28 +6,25 @@ use mathlib.Core.Bool.{Bool, true, false, not, _&&_}
 use mathlib.Core.List.{List, [], _∷_, _++_}
 use lib.Dec.{eqb}
 use Rattle.words.specs.Words.{pick, lowOf, highOf, word, inc, dec, up, down, sum16, displaced, at, sum24, samePage, pageOne}
-use Rattle.flags.specs.declared.Flags.{Flags}
-use Rattle.alu.specs.declared.types.Alu.{Alu}
-use Rattle.cpu.specs.Registers.{operates, pulls, directs, swaps, masks, moves, changed, changeOf, stackOf}
+use Rattle.flags.specs.Flags.{setByte, setNZ}
+use Rattle.cpu.specs.Registers.{operates, pulls, directs, masks, moves, setFlags, applied, stackOf}
 use Rattle.cpu.specs.Record.{regsOf, ended, pushed, pulled, sourceOf, holds}
 use Rattle.cpu.specs.declared.types.Record.{Record}
 use Rattle.cpu.specs.declared.types.Regs.{Regs}
-use Rattle.cpu.specs.declared.types.Reg.{Reg}
-use Rattle.cpu.specs.declared.types.Source.{Source}
 use Rattle.cpu.specs.declared.types.Part.the-variants.{Only, Low, High}
 use Rattle.cpu.specs.declared.types.Stack.the-variants.{Paged, Raw, Home}
-use Rattle.cpu.specs.declared.types.Change.the-variants as change
 use Rattle.cpu.specs.declared.types.Request.{Request}
 use Rattle.cpu.specs.declared.types.Kind.the-variants as kind
 use Rattle.cpu.specs.declared.types.Refusal.the-variants as refusal
 use Rattle.cpu.specs.declared.types.Answer.{Answer}
 use Rattle.cpu.specs.declared.types.Answer.the-variants.{Next, Refused}
-use Rattle.opcodes.specs.Opcodes.{decodeOf}
+use Rattle.opcodes.specs.Opcodes.{decodeOf, aluOf, regOf, sourceIn, oneIn, condIn, flagIn, wideOf}
 use Rattle.opcodes.specs.declared.types.Op.{Op}
 use Rattle.opcodes.specs.declared.types.Op.the-variants as op
+use Rattle.opcodes.specs.declared.types.Operation.{Operation}
 use Rattle.opcodes.specs.declared.types.Shape.{Shape}
 use Rattle.opcodes.specs.declared.types.Shape.the-variants.{Immediate, Absolute, Direct, StoreAbsolute, StoreDirect, Implied, Xba, Mask, Wdm, Push, Pull, PullP, PullB, PullD, Pea, Pei, Per, Jump, JumpLong, JumpIndirect, JumpIndirectLong, JumpIndexed, Call, CallIndexed, CallLong, Return, ReturnLong, Branch, BranchLong, Move}
-use Rattle.cycles.specs.Cycles.{wideOf, unaligned}
+use Rattle.cycles.specs.Cycles.{unaligned}
 use Rattle.bus.specs.Bus.{reads, writes}
 use Rattle.sheet.specs.Run.{Ran, only}
 
@@ -90,17 +87,17 @@ module _ (r : Record) (b : ℕ → ℕ) where
   AA+X = sum16 AA (r .x)
 
   -- what is stored or pushed
-  abbrev pub given : Source → ℕ
-  given k = sourceOf k regs (r .pbr) (r .dbr)
+  abbrev pub given : Operation → ℕ
+  given o = sourceOf (sourceIn o) regs (r .pbr) (r .dbr)
 
   -- an operation on the bytes that are answered from cycle i on
-  abbrev pub effect : Alu → Reg → (w : Bool) → (i : ℕ) → Regs
-  effect k g true i = operates k g High (b (suc i)) (operates k g Low (b i) regs)
-  effect k g false i = operates k g Only (b i) regs
+  abbrev pub effect : Operation → (w : Bool) → (i : ℕ) → Regs
+  effect o true i = operates (aluOf o) (regOf o) High (b (suc i)) (operates (aluOf o) (regOf o) Low (b i) regs)
+  effect o false i = operates (aluOf o) (regOf o) Only (b i) regs
 
-  abbrev pub pulling : Reg → (w : Bool) → Regs
-  pulling g true = pulls g High (b 4) (pulls g Low (b 3) regs)
-  pulling g false = pulls g Only (b 3) regs
+  abbrev pub pulling : Operation → (w : Bool) → Regs
+  pulling o true = pulls (regOf o) High (b 4) (pulls (regOf o) Low (b 3) regs)
+  pulling o false = pulls (regOf o) Only (b 3) regs
 
   -- the end, at a program counter and with a stack pointer, in this bank or in another
   abbrev pub endsIn : (pbr pc s : ℕ) → Regs → Answer
@@ -109,112 +106,112 @@ module _ (r : Record) (b : ℕ → ℕ) where
   abbrev pub ends : (pc s : ℕ) → Regs → Answer
   ends p s g = endsIn (r .pbr) p s g
 
-  abbrev pub sheet : Shape → (w d e : Bool) → Ran
-  sheet (Immediate k g) w d e = record {
+  abbrev pub sheet : Shape → Operation → (w d e : Bool) → Ran
+  sheet Immediate o w d e = record {
     requests = O (K 0) ∷ P (K 1) ∷ when w (P (K 2) ∷ []);
-    out = ends (pc (pick w 3 2)) S (effect k g w 1);
+    out = ends (pc (pick w 3 2)) S (effect o w 1);
   }
-  sheet (Absolute k g) w d e = record {
+  sheet Absolute o w d e = record {
     requests = O (K 0) ∷ P (K 1) ∷ P (K 2) ∷ D B·AA ∷ when w (D B·AA+1 ∷ []);
-    out = ends (pc 3) S (effect k g w 3);
+    out = ends (pc 3) S (effect o w 3);
   }
-  sheet (Direct k g) w d e = record {
+  sheet Direct o w d e = record {
     requests = O (K 0) ∷ P (K 1) ∷ (when d (I (K 1) ∷ []) ++ (D (at 0 D+DO) ∷ when w (D (at 0 (inc D+DO)) ∷ [])));
-    out = ends (pc 2) S (effect k g w (pick d 3 2));
+    out = ends (pc 2) S (effect o w (pick d 3 2));
   }
-  sheet (StoreAbsolute k) w d e = record {
-    requests = O (K 0) ∷ P (K 1) ∷ P (K 2) ∷ W B·AA (lowOf (given k)) ∷ when w (W B·AA+1 (highOf (given k)) ∷ []);
+  sheet StoreAbsolute o w d e = record {
+    requests = O (K 0) ∷ P (K 1) ∷ P (K 2) ∷ W B·AA (lowOf (given o)) ∷ when w (W B·AA+1 (highOf (given o)) ∷ []);
     out = ends (pc 3) S regs;
   }
-  sheet (StoreDirect k) w d e = record {
-    requests = O (K 0) ∷ P (K 1) ∷ (when d (I (K 1) ∷ []) ++ (W (at 0 D+DO) (lowOf (given k)) ∷ when w (W (at 0 (inc D+DO)) (highOf (given k)) ∷ [])));
+  sheet StoreDirect o w d e = record {
+    requests = O (K 0) ∷ P (K 1) ∷ (when d (I (K 1) ∷ []) ++ (W (at 0 D+DO) (lowOf (given o)) ∷ when w (W (at 0 (inc D+DO)) (highOf (given o)) ∷ [])));
     out = ends (pc 2) S regs;
   }
-  sheet (Implied k) w d e = record {
+  sheet Implied o w d e = record {
     requests = O (K 0) ∷ I (K 1) ∷ [];
-    out = ends (pc 1) (stackOf k S regs) (changed (changeOf k S regs) regs);
+    out = ends (pc 1) (stackOf (oneIn o) S regs) (applied (oneIn o) S regs);
   }
-  sheet Xba w d e = record {
+  sheet Xba o w d e = record {
     requests = O (K 0) ∷ I (K 1) ∷ I (K 1) ∷ [];
-    out = ends (pc 1) S (swaps regs);
+    out = ends (pc 1) S (applied (oneIn o) S regs);
   }
   -- REP, SEP: the internal cycle is past the operand (docs/DECISIONS.md)
-  sheet (Mask to) w d e = record {
+  sheet Mask o w d e = record {
     requests = O (K 0) ∷ P (K 1) ∷ I (K 2) ∷ [];
-    out = ends (pc 2) S (masks to (b 1) regs);
+    out = ends (pc 2) S (masks (flagIn o) (b 1) regs);
   }
-  sheet Wdm w d e = record {
+  sheet Wdm o w d e = record {
     requests = O (K 0) ∷ P (K 1) ∷ [];
     out = ends (pc 2) S regs;
   }
-  sheet (Push k) w d e = record {
-    requests = O (K 0) ∷ I (K 1) ∷ (when w (W (at 0 S) (highOf (given k)) ∷ []) ++ (W (at 0 (down S (pick w 1 0))) (lowOf (given k)) ∷ []));
+  sheet Push o w d e = record {
+    requests = O (K 0) ∷ I (K 1) ∷ (when w (W (at 0 S) (highOf (given o)) ∷ []) ++ (W (at 0 (down S (pick w 1 0))) (lowOf (given o)) ∷ []));
     out = ends (pc 1) (down S (pick w 2 1)) regs;
   }
-  sheet (Pull g) w d e =
+  sheet Pull o w d e =
       let s₁ : ℕ = pulled Paged E S in
       let s₂ : ℕ = pulled Paged E s₁ in record {
         requests = O (K 0) ∷ I (K 1) ∷ I (K 1) ∷ D (at 0 s₁) ∷ when w (D (at 0 s₂) ∷ []);
-        out = ends (pc 1) (pick w s₂ s₁) (pulling g w);
+        out = ends (pc 1) (pick w s₂ s₁) (pulling o w);
       }
-  sheet PullP w d e =
+  sheet PullP o w d e =
       let s₁ : ℕ = pulled Paged E S in record {
         requests = O (K 0) ∷ I (K 1) ∷ I (K 1) ∷ D (at 0 s₁) ∷ [];
-        out = ends (pc 1) s₁ (changed (change.Status (b 3)) regs);
+        out = ends (pc 1) s₁ (setFlags (setByte (r .flags) (b 3)) regs);
       }
-  sheet PullB w d e =
+  sheet PullB o w d e =
       let s₁ : ℕ = pulled Raw E S in record {
         requests = O (K 0) ∷ I (K 1) ∷ I (K 1) ∷ D (at 0 s₁) ∷ [];
-        out = Next (ended (b 0) false (r .pbr) (pc 1) s₁ (b 3) (changed (change.Sign (b 3)) regs));
+        out = Next (ended (b 0) false (r .pbr) (pc 1) s₁ (b 3) (setFlags (setNZ (r .flags) (b 3) false) regs));
       }
-  sheet PullD w d e =
+  sheet PullD o w d e =
       let s₁ : ℕ = pulled Raw E S in
       let s₂ : ℕ = pulled Raw E s₁ in record {
         requests = O (K 0) ∷ I (K 1) ∷ I (K 1) ∷ D (at 0 s₁) ∷ D (at 0 s₂) ∷ [];
         out = ends (pc 1) s₂ (directs (wordAt 3) regs);
       }
-  sheet Pea w d e = record {
+  sheet Pea o w d e = record {
     requests = O (K 0) ∷ P (K 1) ∷ P (K 2) ∷ W (at 0 S) (highOf AA) ∷ W (at 0 (down S 1)) (lowOf AA) ∷ [];
     out = ends (pc 3) (down S 2) regs;
   }
-  sheet Pei w d e =
+  sheet Pei o w d e =
       let v : ℕ = wordAt (pick d 3 2) in record {
         requests = O (K 0) ∷ P (K 1) ∷ (when d (I (K 1) ∷ [])
             ++ (D (at 0 D+DO) ∷ D (at 0 (inc D+DO)) ∷ W (at 0 S) (highOf v) ∷ W (at 0 (down S 1)) (lowOf v) ∷ []));
         out = ends (pc 2) (down S 2) regs;
       }
-  sheet Per w d e =
+  sheet Per o w d e =
       let v : ℕ = sum16 (pc 3) AA in record {
         requests = O (K 0) ∷ P (K 1) ∷ P (K 2) ∷ I (K 2) ∷ W (at 0 S) (highOf v) ∷ W (at 0 (down S 1)) (lowOf v) ∷ [];
         out = ends (pc 3) (down S 2) regs;
       }
-  sheet Jump w d e = record {
+  sheet Jump o w d e = record {
     requests = O (K 0) ∷ P (K 1) ∷ P (K 2) ∷ [];
     out = ends AA S regs;
   }
-  sheet JumpLong w d e = record {
+  sheet JumpLong o w d e = record {
     requests = O (K 0) ∷ P (K 1) ∷ P (K 2) ∷ P (K 3) ∷ [];
     out = endsIn (b 3) AA S regs;
   }
-  sheet JumpIndirect w d e = record {
+  sheet JumpIndirect o w d e = record {
     requests = O (K 0) ∷ P (K 1) ∷ P (K 2) ∷ D (at 0 AA) ∷ D (at 0 (up AA 1)) ∷ [];
     out = ends (wordAt 3) S regs;
   }
-  sheet JumpIndirectLong w d e = record {
+  sheet JumpIndirectLong o w d e = record {
     requests = O (K 0) ∷ P (K 1) ∷ P (K 2) ∷ D (at 0 AA) ∷ D (at 0 (up AA 1)) ∷ D (at 0 (up AA 2)) ∷ [];
     out = endsIn (b 5) (wordAt 3) S regs;
   }
-  sheet JumpIndexed w d e = record {
+  sheet JumpIndexed o w d e = record {
     requests = O (K 0) ∷ P (K 1) ∷ P (K 2) ∷ I (K 2) ∷ P (at (r .pbr) AA+X) ∷ P (at (r .pbr) (inc AA+X)) ∷ [];
     out = ends (wordAt 4) S regs;
   }
   -- JSR: the address of the instruction's last byte is pushed, inside page 1 in emulation
-  sheet Call w d e =
+  sheet Call o w d e =
       let s₁ : ℕ = pushed E S in record {
         requests = O (K 0) ∷ P (K 1) ∷ P (K 2) ∷ I (K 2) ∷ W (at 0 S) (highOf (pc 2)) ∷ W (at 0 s₁) (lowOf (pc 2)) ∷ [];
         out = ends AA (dec s₁) regs;
       }
-  sheet CallIndexed w d e =
+  sheet CallIndexed o w d e =
       let s₁ : ℕ = pushed E S in
       let q : ℕ = sum16 (word (b 1) (b 4)) (r .x) in record {
         requests = O (K 0) ∷ P (K 1) ∷ W (at 0 S) (highOf (pc 2)) ∷ W (at 0 s₁) (lowOf (pc 2)) ∷ P (K 2) ∷ I (K 2)
@@ -222,19 +219,19 @@ module _ (r : Record) (b : ℕ → ℕ) where
         out = ends (wordAt 6) (pushed E s₁) regs;
       }
   -- JSL: the internal cycle asks S + 1, S being past the pushed bank
-  sheet CallLong w d e =
+  sheet CallLong o w d e =
       let s₁ : ℕ = down S 1 in record {
-        requests = O (K 0) ∷ P (K 1) ∷ P (K 2) ∷ W (at 0 S) (lowOf (r .pbr)) ∷ I (at 0 (inc s₁)) ∷ P (K 3)
+        requests = O (K 0) ∷ P (K 1) ∷ P (K 2) ∷ W (at 0 S) (r .pbr) ∷ I (at 0 (inc s₁)) ∷ P (K 3)
             ∷ W (at 0 s₁) (highOf (pc 3)) ∷ W (at 0 (down S 2)) (lowOf (pc 3)) ∷ [];
         out = endsIn (b 5) AA (down S 3) regs;
       }
-  sheet Return w d e =
+  sheet Return o w d e =
       let s₁ : ℕ = pulled Paged E S in
       let s₂ : ℕ = pulled Paged E s₁ in record {
         requests = O (K 0) ∷ I (K 1) ∷ I (K 1) ∷ D (at 0 s₁) ∷ D (at 0 s₂) ∷ I (at 0 (pageOne E s₂)) ∷ [];
         out = ends (inc (wordAt 3)) s₂ regs;
       }
-  sheet ReturnLong w d e =
+  sheet ReturnLong o w d e =
       let s₁ : ℕ = pulled Home E S in
       let s₂ : ℕ = pulled Raw E s₁ in
       let s₃ : ℕ = pulled Raw E s₂ in record {
@@ -242,28 +239,28 @@ module _ (r : Record) (b : ℕ → ℕ) where
         out = endsIn (b 5) (inc (wordAt 3)) s₃ regs;
       }
   -- a branch that is taken has one cycle more and, in emulation, another one where it leads to another page
-  sheet (Branch k) w d e =
-      let taken : Bool = holds k (r .flags) in
+  sheet Branch o w d e =
+      let taken : Bool = holds (condIn o) (r .flags) in
       let q : ℕ = displaced (pc 2) (lowOf (b 1)) in record {
         requests = O (K 0) ∷ P (K 1) ∷ when taken (I (K 2) ∷ when (e && not (samePage (pc 2) q)) (I (K 2) ∷ []));
         out = ends (pick taken q (pc 2)) S regs;
       }
-  sheet BranchLong w d e = record {
+  sheet BranchLong o w d e = record {
     requests = O (K 0) ∷ P (K 1) ∷ P (K 2) ∷ I (K 2) ∷ [];
     out = ends (sum16 (pc 3) AA) S regs;
   }
   -- a byte of a move: destination bank, source bank; FFFF in A afterwards ends the move
-  sheet (Move ups) w d e =
+  sheet Move o w d e =
       let q : ℕ = at (b 1) (r .y) in
       let last : Bool = eqb (dec (r .a)) 0xFFFF in record {
         requests = O (K 0) ∷ P (K 1) ∷ P (K 2) ∷ D (at (lowOf (b 2)) (r .x)) ∷ W q (lowOf (b 3)) ∷ I q ∷ I q ∷ [];
-        out = Next (ended (b 0) (not last) (r .pbr) (pick last (pc 3) (pc 0)) S (b 1) (moves ups regs));
+        out = Next (ended (b 0) (not last) (r .pbr) (pick last (pc 3) (pc 0)) S (b 1) (moves (flagIn o) regs));
       }
 
   -- the row of an opcode; one that isn't listed is refused at its fetch
   abbrev pub row : Op → Ran
   row op.Unlisted = only (O (K 0)) (Refused refusal.Unlisted)
-  row (op.Listed s) = sheet s (wideOf s (r .flags .memsel) (r .flags .indexsel)) (unaligned (r .d)) E
+  row (op.Listed s o) = sheet s o (wideOf o (r .flags .memsel) (r .flags .indexsel)) (unaligned (r .d)) E
 
   -- the instruction that starts at r
   unfoldable pub instruction : Ran

@@ -15,7 +15,7 @@ use Rattle.opcodes.specs.Opcodes.{decodeOf, isListed}
 use Rattle.opcodes.specs.declared.types.Op.{Op}
 use Rattle.cycles.specs.Cycles.{heldMicro}
 use Rattle.cycles.specs.declared.types.Micro.{Micro}
-use Rattle.cycles.specs.declared.types.Micro.the-variants.{Refuse, Fetch, Cycle}
+use Rattle.cycles.specs.declared.types.Micro.the-variants.{Refuse, Fetch, Held}
 use Rattle.bus.specs.Bus.{reads, here, askOf}
 use Rattle.act.specs.Act.{past, actOf}
 
@@ -30,12 +30,12 @@ begun o r b = pick (isListed o) (Next (underWay b 1 (r .pbr) (regsOf r) (past (m
 abbrev pub askedBy : Micro → Record → Asked
 askedBy (Refuse n) r = No n
 askedBy Fetch r = Ask (reads kind.Opcode (here r))
-askedBy (Cycle q k) r = Ask (askOf q r)
+askedBy (Held q m c t o) r = Ask (askOf q o r)
 
 abbrev pub answeredBy : Micro → Record → ℕ → Answer
 answeredBy (Refuse n) r b = Refused n
 answeredBy Fetch r b = begun (decodeOf b) r b
-answeredBy (Cycle q k) r b = Next (actOf k r b)
+answeredBy (Held q m c t o) r b = Next (actOf m c t o r b)
 
 unfoldable pub requestOf : Record → Asked
 requestOf r = askedBy (microOf r) r

@@ -9,6 +9,7 @@ use Rattle.cpu.specs.declared.types.Source.the-variants.{Register}
 use Rattle.opcodes.specs.Opcodes.{oneBytes, opcodes, decodeOf, oneOf, columnOf, operationOf, indexOf, conditionOf}
 use Rattle.opcodes.specs.declared.types.Op.the-variants.{Unlisted, Listed}
 use Rattle.opcodes.specs.declared.types.Shape.the-variants.{Immediate, Absolute, Direct, StoreAbsolute, StoreDirect, Implied, Branch}
+use Rattle.opcodes.specs.declared.types.Operation.the-variants.{Read, Give, Do, If}
 use Rattle.opcodes.proofs.Keys.{among, find-none, within, below, above, not-missed, Missed}
 use Rattle.opcodes.proofs.opcode.decode.Statement.{statement}
 use Rattle.opcodes.proofs.opcode.decode.Tie as tie
@@ -64,15 +65,15 @@ column-requires-5 c κs = search needs
 
 returns : tie.Need-returns
 unfolding decodeOf opcodes oneBytes oneOf
-returns c = rw (c .operation .ensures) (among (λ (n : ℕ). Listed (Immediate (operationOf n) A) ≡ decodeOf n) (0x09 ∷ 0x29 ∷ 0x49 ∷ 0x69 ∷ 0xA9 ∷ 0xC9 ∷ 0xE9 ∷ []) _ (c .before .match .keys1) (refl, (refl, (refl, (refl, (refl, (refl, (refl, tt))))))))
+returns c = rw (c .operation .ensures) (among (λ (n : ℕ). Listed Immediate (Read (operationOf n) A) ≡ decodeOf n) (0x09 ∷ 0x29 ∷ 0x49 ∷ 0x69 ∷ 0xA9 ∷ 0xC9 ∷ 0xE9 ∷ []) _ (c .before .match .keys1) (refl, (refl, (refl, (refl, (refl, (refl, (refl, tt))))))))
 
 returns-2 : tie.Need-returns-2
 unfolding decodeOf opcodes oneBytes oneOf
-returns-2 c = rw (c .operation2 .ensures) (among (λ (n : ℕ). Listed (Direct (operationOf n) A) ≡ decodeOf n) (0x05 ∷ 0x25 ∷ 0x45 ∷ 0x65 ∷ 0xC5 ∷ 0xE5 ∷ []) _ (c .before .match .keys2) (refl, (refl, (refl, (refl, (refl, (refl, tt)))))))
+returns-2 c = rw (c .operation2 .ensures) (among (λ (n : ℕ). Listed Direct (Read (operationOf n) A) ≡ decodeOf n) (0x05 ∷ 0x25 ∷ 0x45 ∷ 0x65 ∷ 0xC5 ∷ 0xE5 ∷ []) _ (c .before .match .keys2) (refl, (refl, (refl, (refl, (refl, (refl, tt)))))))
 
 returns-3 : tie.Need-returns-3
 unfolding decodeOf opcodes oneBytes oneOf
-returns-3 c = rw (c .operation3 .ensures) (among (λ (n : ℕ). Listed (Absolute (operationOf n) A) ≡ decodeOf n) (0x0D ∷ 0x2D ∷ 0x4D ∷ 0x6D ∷ 0xCD ∷ 0xED ∷ []) _ (c .before .match .keys3) (refl, (refl, (refl, (refl, (refl, (refl, tt)))))))
+returns-3 c = rw (c .operation3 .ensures) (among (λ (n : ℕ). Listed Absolute (Read (operationOf n) A) ≡ decodeOf n) (0x0D ∷ 0x2D ∷ 0x4D ∷ 0x6D ∷ 0xCD ∷ 0xED ∷ []) _ (c .before .match .keys3) (refl, (refl, (refl, (refl, (refl, (refl, tt)))))))
 
 returns-4 : tie.Need-returns-4
 unfolding decodeOf opcodes oneBytes
@@ -88,19 +89,19 @@ returns-6 c = sym (ap decodeOf (c .match .keys6))
 
 returns-7 : tie.Need-returns-7
 unfolding decodeOf opcodes oneBytes oneOf
-returns-7 c = rw (c .column .ensures) (among (λ (n : ℕ). Listed (Immediate Load (columnOf n)) ≡ decodeOf n) (0xA0 ∷ 0xA2 ∷ []) _ (c .before .match .keys7) (refl, (refl, tt)))
+returns-7 c = rw (c .column .ensures) (among (λ (n : ℕ). Listed Immediate (Read Load (columnOf n)) ≡ decodeOf n) (0xA0 ∷ 0xA2 ∷ []) _ (c .before .match .keys7) (refl, (refl, tt)))
 
 returns-8 : tie.Need-returns-8
 unfolding decodeOf opcodes oneBytes oneOf
-returns-8 c = rw (c .index .ensures) (among (λ (n : ℕ). Listed (Immediate Cmp (indexOf n)) ≡ decodeOf n) (0xC0 ∷ 0xE0 ∷ []) _ (c .before .match .keys8) (refl, (refl, tt)))
+returns-8 c = rw (c .index .ensures) (among (λ (n : ℕ). Listed Immediate (Read Cmp (indexOf n)) ≡ decodeOf n) (0xC0 ∷ 0xE0 ∷ []) _ (c .before .match .keys8) (refl, (refl, tt)))
 
 returns-9 : tie.Need-returns-9
 unfolding decodeOf opcodes oneBytes oneOf
-returns-9 c = rw (c .index2 .ensures) (among (λ (n : ℕ). Listed (Direct Cmp (indexOf n)) ≡ decodeOf n) (0xC4 ∷ 0xE4 ∷ []) _ (c .before .match .keys9) (refl, (refl, tt)))
+returns-9 c = rw (c .index2 .ensures) (among (λ (n : ℕ). Listed Direct (Read Cmp (indexOf n)) ≡ decodeOf n) (0xC4 ∷ 0xE4 ∷ []) _ (c .before .match .keys9) (refl, (refl, tt)))
 
 returns-10 : tie.Need-returns-10
 unfolding decodeOf opcodes oneBytes oneOf
-returns-10 c = rw (c .index3 .ensures) (among (λ (n : ℕ). Listed (Absolute Cmp (indexOf n)) ≡ decodeOf n) (0xCC ∷ 0xEC ∷ []) _ (c .before .match .keys10) (refl, (refl, tt)))
+returns-10 c = rw (c .index3 .ensures) (among (λ (n : ℕ). Listed Absolute (Read Cmp (indexOf n)) ≡ decodeOf n) (0xCC ∷ 0xEC ∷ []) _ (c .before .match .keys10) (refl, (refl, tt)))
 
 returns-11 : tie.Need-returns-11
 unfolding decodeOf opcodes oneBytes
@@ -136,7 +137,7 @@ returns-18 c = sym (ap decodeOf (c .match .keys18))
 
 returns-19 : tie.Need-returns-19
 unfolding decodeOf opcodes oneBytes oneOf
-returns-19 c = rw (c .condition .ensures) (among (λ (n : ℕ). Listed (Branch (conditionOf n)) ≡ decodeOf n) (0x10 ∷ 0x30 ∷ 0x50 ∷ 0x70 ∷ 0x90 ∷ 0xB0 ∷ 0xD0 ∷ 0xF0 ∷ []) _ (c .before .match .keys19) (refl, (refl, (refl, (refl, (refl, (refl, (refl, (refl, tt)))))))))
+returns-19 c = rw (c .condition .ensures) (among (λ (n : ℕ). Listed Branch (If (conditionOf n)) ≡ decodeOf n) (0x10 ∷ 0x30 ∷ 0x50 ∷ 0x70 ∷ 0x90 ∷ 0xB0 ∷ 0xD0 ∷ 0xF0 ∷ []) _ (c .before .match .keys19) (refl, (refl, (refl, (refl, (refl, (refl, (refl, (refl, tt)))))))))
 
 returns-20 : tie.Need-returns-20
 unfolding decodeOf opcodes oneBytes
@@ -252,27 +253,27 @@ returns-47 c = sym (ap decodeOf (c .match .keys47))
 
 returns-48 : tie.Need-returns-48
 unfolding decodeOf opcodes oneBytes oneOf
-returns-48 c = rw (c .one-byte .ensures) (among (λ (n : ℕ). Listed (Implied (oneOf n)) ≡ decodeOf n) (0x0A ∷ 0x18 ∷ 0x1A ∷ 0x2A ∷ 0x38 ∷ 0x3A ∷ 0x4A ∷ 0x58 ∷ 0x6A ∷ 0x78 ∷ 0x88 ∷ 0x8A ∷ 0x98 ∷ 0x9A ∷ 0xA8 ∷ 0xAA ∷ 0xB8 ∷ 0xBA ∷ 0xC8 ∷ 0xCA ∷ 0xD8 ∷ 0xE8 ∷ 0xEA ∷ 0xF8 ∷ []) _ (c .before .match .keys48) (refl, (refl, (refl, (refl, (refl, (refl, (refl, (refl, (refl, (refl, (refl, (refl, (refl, (refl, (refl, (refl, (refl, (refl, (refl, (refl, (refl, (refl, (refl, (refl, tt)))))))))))))))))))))))))
+returns-48 c = rw (c .one-byte .ensures) (among (λ (n : ℕ). Listed Implied (Do (oneOf n)) ≡ decodeOf n) (0x0A ∷ 0x18 ∷ 0x1A ∷ 0x2A ∷ 0x38 ∷ 0x3A ∷ 0x4A ∷ 0x58 ∷ 0x6A ∷ 0x78 ∷ 0x88 ∷ 0x8A ∷ 0x98 ∷ 0x9A ∷ 0xA8 ∷ 0xAA ∷ 0xB8 ∷ 0xBA ∷ 0xC8 ∷ 0xCA ∷ 0xD8 ∷ 0xE8 ∷ 0xEA ∷ 0xF8 ∷ []) _ (c .before .match .keys48) (refl, (refl, (refl, (refl, (refl, (refl, (refl, (refl, (refl, (refl, (refl, (refl, (refl, (refl, (refl, (refl, (refl, (refl, (refl, (refl, (refl, (refl, (refl, (refl, tt)))))))))))))))))))))))))
 
 returns-49 : tie.Need-returns-49
 unfolding decodeOf opcodes oneBytes oneOf
-returns-49 c = rw (c .one-byte2 .ensures) (among (λ (n : ℕ). Listed (Implied (oneOf n)) ≡ decodeOf n) (0x1B ∷ 0x3B ∷ 0x5B ∷ 0x7B ∷ 0x9B ∷ 0xBB ∷ 0xFB ∷ []) _ (c .before .match .keys49) (refl, (refl, (refl, (refl, (refl, (refl, (refl, tt))))))))
+returns-49 c = rw (c .one-byte2 .ensures) (among (λ (n : ℕ). Listed Implied (Do (oneOf n)) ≡ decodeOf n) (0x1B ∷ 0x3B ∷ 0x5B ∷ 0x7B ∷ 0x9B ∷ 0xBB ∷ 0xFB ∷ []) _ (c .before .match .keys49) (refl, (refl, (refl, (refl, (refl, (refl, (refl, tt))))))))
 
 returns-50 : tie.Need-returns-50
 unfolding decodeOf opcodes oneBytes
-returns-50 c = rw (c .column2 .ensures) (among (λ (n : ℕ). Missed keys n → Listed (StoreDirect (Register (columnOf n))) ≡ decodeOf n) (0x84 ∷ 0x85 ∷ 0x86 ∷ []) _ (within 2 0x84 _ (c .before .before .if1 .left) (c .before .if2 .taken)) ((λ h. refl), ((λ h. refl), ((λ h. refl), tt))) (c .before .before .before .match .rest))
+returns-50 c = rw (c .column2 .ensures) (among (λ (n : ℕ). Missed keys n → Listed StoreDirect (Give (Register (columnOf n))) ≡ decodeOf n) (0x84 ∷ 0x85 ∷ 0x86 ∷ []) _ (within 2 0x84 _ (c .before .before .if1 .left) (c .before .if2 .taken)) ((λ h. refl), ((λ h. refl), ((λ h. refl), tt))) (c .before .before .before .match .rest))
 
 returns-51 : tie.Need-returns-51
 unfolding decodeOf opcodes oneBytes
-returns-51 c = rw (c .column3 .ensures) (among (λ (n : ℕ). Missed keys n → Listed (StoreAbsolute (Register (columnOf n))) ≡ decodeOf n) (0x88 ∷ 0x89 ∷ 0x8A ∷ 0x8B ∷ 0x8C ∷ 0x8D ∷ 0x8E ∷ []) _ (within 6 0x88 _ (c .before .before .if3 .left) (c .before .if4 .taken)) ((λ h. not-missed 0x88 keys tt h), ((λ h. not-missed 0x89 keys tt h), ((λ h. not-missed 0x8A keys tt h), ((λ h. not-missed 0x8B keys tt h), ((λ h. refl), ((λ h. refl), ((λ h. refl), tt))))))) (c .before .before .before .before .before .match .rest))
+returns-51 c = rw (c .column3 .ensures) (among (λ (n : ℕ). Missed keys n → Listed StoreAbsolute (Give (Register (columnOf n))) ≡ decodeOf n) (0x88 ∷ 0x89 ∷ 0x8A ∷ 0x8B ∷ 0x8C ∷ 0x8D ∷ 0x8E ∷ []) _ (within 6 0x88 _ (c .before .before .if3 .left) (c .before .if4 .taken)) ((λ h. not-missed 0x88 keys tt h), ((λ h. not-missed 0x89 keys tt h), ((λ h. not-missed 0x8A keys tt h), ((λ h. not-missed 0x8B keys tt h), ((λ h. refl), ((λ h. refl), ((λ h. refl), tt))))))) (c .before .before .before .before .before .match .rest))
 
 returns-52 : tie.Need-returns-52
 unfolding decodeOf opcodes oneBytes
-returns-52 c = rw (c .column4 .ensures) (among (λ (n : ℕ). Missed keys n → Listed (Direct Load (columnOf n)) ≡ decodeOf n) (0xA4 ∷ 0xA5 ∷ 0xA6 ∷ []) _ (within 2 0xA4 _ (c .before .before .if5 .left) (c .before .if6 .taken)) ((λ h. refl), ((λ h. refl), ((λ h. refl), tt))) (c .before .before .before .before .before .before .before .match .rest))
+returns-52 c = rw (c .column4 .ensures) (among (λ (n : ℕ). Missed keys n → Listed Direct (Read Load (columnOf n)) ≡ decodeOf n) (0xA4 ∷ 0xA5 ∷ 0xA6 ∷ []) _ (within 2 0xA4 _ (c .before .before .if5 .left) (c .before .if6 .taken)) ((λ h. refl), ((λ h. refl), ((λ h. refl), tt))) (c .before .before .before .before .before .before .before .match .rest))
 
 returns-53 : tie.Need-returns-53
 unfolding decodeOf opcodes oneBytes
-returns-53 c = rw (c .column5 .ensures) (among (λ (n : ℕ). Missed keys n → Listed (Absolute Load (columnOf n)) ≡ decodeOf n) (0xA8 ∷ 0xA9 ∷ 0xAA ∷ 0xAB ∷ 0xAC ∷ 0xAD ∷ 0xAE ∷ []) _ (within 6 0xA8 _ (c .before .before .if7 .left) (c .before .if8 .taken)) ((λ h. not-missed 0xA8 keys tt h), ((λ h. not-missed 0xA9 keys tt h), ((λ h. not-missed 0xAA keys tt h), ((λ h. not-missed 0xAB keys tt h), ((λ h. refl), ((λ h. refl), ((λ h. refl), tt))))))) (c .before .before .before .before .before .before .before .before .before .match .rest))
+returns-53 c = rw (c .column5 .ensures) (among (λ (n : ℕ). Missed keys n → Listed Absolute (Read Load (columnOf n)) ≡ decodeOf n) (0xA8 ∷ 0xA9 ∷ 0xAA ∷ 0xAB ∷ 0xAC ∷ 0xAD ∷ 0xAE ∷ []) _ (within 6 0xA8 _ (c .before .before .if7 .left) (c .before .if8 .taken)) ((λ h. not-missed 0xA8 keys tt h), ((λ h. not-missed 0xA9 keys tt h), ((λ h. not-missed 0xAA keys tt h), ((λ h. not-missed 0xAB keys tt h), ((λ h. refl), ((λ h. refl), ((λ h. refl), tt))))))) (c .before .before .before .before .before .before .before .before .before .match .rest))
 
 returns-54 : tie.Need-returns-54
 unfolding decodeOf opcodes oneBytes
