@@ -1,2 +1,5 @@
-// What a cycle makes of the answered byte: where it leads, then the record that this gives.
+// What a cycle makes of the answered byte: PC, S and the scratch words, the registers, where it leads; then the record.
+pub mod arrive;
+pub mod mid;
+pub mod regs;
 pub mod types;

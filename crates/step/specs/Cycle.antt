@@ -19,9 +19,12 @@ use Rattle.cycles.specs.declared.types.Micro.the-variants.{Refuse, Fetch, Held}
 use Rattle.bus.specs.Bus.{reads, here, askOf}
 use Rattle.act.specs.Act.{past, actOf}
 
--- what the next cycle does
+-- what a well-formed record's next cycle does, and any record's
+abbrev pub wellMicro : Record → Micro
+wellMicro r = pick (r .held) (heldMicro (decodeOf (r .ir)) (r .flags) (r .d) (r .tcu)) Fetch
+
 unfoldable pub microOf : Record → Micro
-microOf r = pick (wellFormed r) (pick (r .held) (heldMicro (decodeOf (r .ir)) (r .flags) (r .d) (r .tcu)) Fetch) (Refuse Malformed)
+microOf r = pick (wellFormed r) (wellMicro r) (Refuse Malformed)
 
 -- the opcode's byte: the first cycle of its instruction comes next
 abbrev pub begun : Op → Record → ℕ → Answer

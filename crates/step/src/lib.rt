@@ -1,1 +1,95 @@
 // The two entries of a cycle: the request of a record, and the record after the answered byte.
+// Whoever runs many cycles works out `next_micro` once a cycle, then calls `request_at` and `answer_at`.
+ghost use mathlib.Core.Path.{_≡_};
+ghost use Rattle.opcodes.specs.Opcodes.{decodeOf};
+ghost use Rattle.cycles.specs.Cycles.{heldMicro};
+ghost use Rattle.step.specs.Cycle.{wellMicro, microOf, begun, askedBy, answeredBy, requestOf, answerOf};
+use act::arrive::act;
+use act::mid::step_pc;
+use bus::ask;
+use bus::code;
+use bus::read;
+use cpu::record::mid;
+use cpu::record::regs;
+use cpu::record::under_way;
+use cpu::record::well_formed;
+use cpu::types::Answer;
+use cpu::types::Asked;
+use cpu::types::Kind;
+use cpu::types::Record;
+use cpu::types::Refusal;
+use cycles::types::Micro;
+use opcodes::opcode::decode;
+use opcodes::opcode::listed;
+use phase::held_micro;
+
+// What a well-formed record's next cycle does: refusals 5 and 6 of a held opcode.
+pub fn well_micro(r: Record) -> Micro
+    ensures { λ m. ⌜ m ≡ wellMicro r ⌝ }
+{
+    let held = r.held;
+    if held {
+        let f = r.flags;
+        held_micro(decode(r.ir), f, r.d, r.tcu)
+    } else {
+        Micro::Fetch
+    }
+}
+
+// What any record's next cycle does: refusal 4 first.
+pub fn next_micro(r: Record) -> Micro
+    ensures { λ m. ⌜ m ≡ microOf r ⌝ }
+{
+    let well = well_formed(r);
+    if well {
+        well_micro(r)
+    } else {
+        Micro::Refuse(Refusal::Malformed)
+    }
+}
+
+// The opcode's byte: the first cycle of its instruction comes next, or refusal 5.
+fn begin(r: Record, b: u8) -> Answer
+    ensures { λ n. ⌜ n ≡ begun (decodeOf b) r b ⌝ }
+{
+    let known = listed(b);
+    if known {
+        Answer::Next(under_way(b, 1, r.pbr, regs(r), step_pc(mid(r))))
+    } else {
+        Answer::Refused(Refusal::Unlisted)
+    }
+}
+
+pub fn request_at(r: Record, m: Micro) -> Asked
+    ensures { λ q. ⌜ q ≡ askedBy m r ⌝ }
+{
+    match m {
+        Micro::Refuse(n) => Asked::No(n),
+        Micro::Fetch => Asked::Ask(read(Kind::Opcode, code(r))),
+        Micro::Held(q, _, _, _, o) => Asked::Ask(ask(q, o, r)),
+    }
+}
+
+pub fn answer_at(r: Record, m: Micro, b: u8) -> Answer
+    ensures { λ n. ⌜ n ≡ answeredBy m r b ⌝ }
+{
+    match m {
+        Micro::Refuse(n) => Answer::Refused(n),
+        Micro::Fetch => begin(r, b),
+        Micro::Held(_, k, c, t, o) => Answer::Next(act(k, c, t, o, r, b)),
+    }
+}
+
+// What a record asks of the bus, or the refusal: 4, 5 or 6.
+pub fn request(r: Record) -> Asked
+    ensures { λ q. ⌜ q ≡ requestOf r ⌝ }
+{
+    request_at(r, next_micro(r))
+}
+
+// The record after the answered byte, or the refusal: 4, 5 or 6. After a write the byte is ignored.
+pub fn answer(r: Record, b: u8) -> Answer
+    ensures { λ n. ⌜ n ≡ answerOf r b ⌝ }
+{
+    answer_at(r, next_micro(r), b)
+}
