@@ -1,0 +1,4 @@
+pub mod CarryLaws
+pub mod OneByte
+pub mod ResultLaws
+pub mod SumLaws

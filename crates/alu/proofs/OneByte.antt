@@ -1,0 +1,59 @@
+-- What one byte of each operation says: the width laws stand on these facts and open no operation.
+use Prim.Native.Nat.{ℕ, _+_, _*_, _/_, _%_, _<_}
+use mathlib.Core.Path.{_≡_, refl}
+use mathlib.Core.Bool.{Bool, true, false, not}
+use native.Mathlib.Omega.{arith}
+use lib.Bits.{and-lt, or-lt, xor-lt}
+use Rattle.flags.specs.declared.Flags.{Flags}
+use Rattle.adder.proofs.BinaryLaws.{adc-small, sbc-small, bit-not}
+use Rattle.alu.specs.Alu.{nz, summed, adcByte, sbcByte, cmpByte, andByte, oraByte, eorByte, bitByte, loadByte, operated, leftByte, rightByte, stepByte, shifted}
+use Rattle.alu.specs.declared.types.Alu.{Alu}
+use Rattle.alu.specs.declared.types.Alu.the-variants.{Adc, Sbc, Cmp, And, Ora, Eor, Bit, BitImmediate, Load}
+use Rattle.alu.specs.declared.types.Shift.{Shift}
+use Rattle.alu.specs.declared.types.Shift.the-variants.{Asl, Rol, Lsr, Ror, Inc, Dec}
+
+-- an operation's byte is a byte
+pub operated-small : (k : Alu) (first top : Bool) (a b : ℕ) (f : Flags) → a < 256 → b < 256 → operated k first top a b f .byte < 256
+unfolding adcByte sbcByte cmpByte andByte oraByte eorByte bitByte loadByte summed
+operated-small Adc first top a b f p q = adc-small (f .decimal) a b (f .carry)
+operated-small Sbc first top a b f p q = sbc-small (f .decimal) a b (f .carry)
+operated-small Cmp first top a b f p q = p
+operated-small And first top a b f p q = and-lt 8 a b p q
+operated-small Ora first top a b f p q = or-lt 8 a b p q
+operated-small Eor first top a b f p q = xor-lt 8 a b p q
+operated-small Bit first top a b f p q = p
+operated-small BitImmediate first top a b f p q = p
+operated-small Load first top a b f p q = q
+
+left-small : (first top : Bool) (b : ℕ) (f : Flags) → b < 256 → leftByte first top b f .byte < 256
+unfolding leftByte
+left-small first top b f p = omega (arith, bit-not (f .carry))
+
+right-small : (first top : Bool) (b : ℕ) (f : Flags) → b < 256 → rightByte first top b f .byte < 256
+unfolding rightByte
+right-small first top b f p = omega (arith, bit-not (f .carry))
+
+step-small : (by : ℕ) (first top : Bool) (b : ℕ) (f : Flags) → stepByte by first top b f .byte < 256
+unfolding stepByte
+step-small by first top b f = adc-small false b by (f .carry)
+
+pub shifted-small : (k : Shift) (first top : Bool) (b : ℕ) (f : Flags) → b < 256 → shifted k first top b f .byte < 256
+shifted-small Asl first top b f p = left-small first top b f p
+shifted-small Rol first top b f p = left-small first top b f p
+shifted-small Lsr first top b f p = right-small first top b f p
+shifted-small Ror first top b f p = right-small first top b f p
+shifted-small Inc first top b f p = step-small 0 first top b f
+shifted-small Dec first top b f p = step-small 255 first top b f
+
+-- no operation changes D
+pub operated-mode : (k : Alu) (first top : Bool) (a b : ℕ) (f : Flags) → operated k first top a b f .flags .decimal ≡ f .decimal
+unfolding adcByte sbcByte cmpByte andByte oraByte eorByte bitByte loadByte summed nz
+operated-mode Adc first top a b f = refl
+operated-mode Sbc first top a b f = refl
+operated-mode Cmp first top a b f = refl
+operated-mode And first top a b f = refl
+operated-mode Ora first top a b f = refl
+operated-mode Eor first top a b f = refl
+operated-mode Bit first top a b f = refl
+operated-mode BitImmediate first top a b f = refl
+operated-mode Load first top a b f = refl
