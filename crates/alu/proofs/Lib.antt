@@ -1,4 +1,4 @@
 pub mod CarryLaws
+pub mod FlagLaws
 pub mod OneByte
-pub mod ResultLaws
-pub mod SumLaws
+pub mod Widths

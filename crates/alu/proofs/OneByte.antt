@@ -1,8 +1,9 @@
 -- What one byte of each operation says: the width laws stand on these facts and open no operation.
 use Prim.Native.Nat.{ℕ, _+_, _*_, _/_, _%_, _<_}
 use mathlib.Core.Path.{_≡_, refl}
-use mathlib.Core.Bool.{Bool, true, false, not}
+use mathlib.Core.Bool.{Bool, true, false, _&&_, _||_}
 use native.Mathlib.Omega.{arith}
+use lib.Dec.{T, eqb, leb}
 use lib.Bits.{and-lt, or-lt, xor-lt}
 use Rattle.flags.specs.declared.Flags.{Flags}
 use Rattle.adder.proofs.BinaryLaws.{adc-small, sbc-small, bit-not}
@@ -11,6 +12,7 @@ use Rattle.alu.specs.declared.types.Alu.{Alu}
 use Rattle.alu.specs.declared.types.Alu.the-variants.{Adc, Sbc, Cmp, And, Ora, Eor, Bit, BitImmediate, Load}
 use Rattle.alu.specs.declared.types.Shift.{Shift}
 use Rattle.alu.specs.declared.types.Shift.the-variants.{Asl, Rol, Lsr, Ror, Inc, Dec}
+use Rattle.alu.specs.declared.types.Byte.{Byte}
 
 -- an operation's byte is a byte
 pub operated-small : (k : Alu) (first top : Bool) (a b : ℕ) (f : Flags) → a < 256 → b < 256 → operated k first top a b f .byte < 256
@@ -57,3 +59,41 @@ operated-mode Eor first top a b f = refl
 operated-mode Bit first top a b f = refl
 operated-mode BitImmediate first top a b f = refl
 operated-mode Load first top a b f = refl
+
+-- an operation whose bytes are bytes, and which keeps D
+pub record Plain (byte : (first top : Bool) → (a b : ℕ) → Flags → Byte) : Type 0 where
+  pub small : (first top : Bool) (a b : ℕ) (f : Flags) → a < 256 → b < 256 → byte first top a b f .byte < 256
+  pub mode : (first top : Bool) (a b : ℕ) (f : Flags) → byte first top a b f .flags .decimal ≡ f .decimal
+
+pub operated-plain : (k : Alu) → Plain (operated k)
+operated-plain k = record { small = operated-small k; mode = operated-mode k }
+
+-- which operations write their result; CMP and BIT keep the register
+abbrev pub writes : Alu → Bool
+writes Adc = true
+writes Sbc = true
+writes Cmp = false
+writes And = true
+writes Ora = true
+writes Eor = true
+writes Bit = false
+writes BitImmediate = false
+writes Load = true
+
+-- what they say of it: Z is that of the bytes so far, and N of the top byte is its sign
+pub record Tells (k : Alu) : Type 0 where
+  pub zero : (first top : Bool) (a b : ℕ) (f : Flags)
+      → let r : Byte = operated k first top a b f in r .flags .zero ≡ ((first || f .zero) && eqb (r .byte) 0)
+  pub sign : (first : Bool) (a b : ℕ) (f : Flags) → let r : Byte = operated k first true a b f in r .flags .negative ≡ leb 128 (r .byte)
+
+pub tells : (k : Alu) → T (writes k) → Tells k
+unfolding adcByte sbcByte andByte oraByte eorByte loadByte summed nz
+tells Adc w = record { zero = λ first top a b f. refl; sign = λ first a b f. refl }
+tells Sbc w = record { zero = λ first top a b f. refl; sign = λ first a b f. refl }
+tells Cmp w = absurd w
+tells And w = record { zero = λ first top a b f. refl; sign = λ first a b f. refl }
+tells Ora w = record { zero = λ first top a b f. refl; sign = λ first a b f. refl }
+tells Eor w = record { zero = λ first top a b f. refl; sign = λ first a b f. refl }
+tells Bit w = absurd w
+tells BitImmediate w = absurd w
+tells Load w = record { zero = λ first top a b f. refl; sign = λ first a b f. refl }

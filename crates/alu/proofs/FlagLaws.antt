@@ -1,0 +1,101 @@
+-- Words and flags over n bytes, for any operation: what a byte-wise one makes of words, Z of all bytes, N and V of the top one.
+use Prim.Native.Nat.{ℕ, zero, suc, _+_, _*_, _/_, _%_, _^_, _≤_, _<_}
+use mathlib.Core.Path.{_≡_, refl, sym, _∙_}
+use mathlib.Core.Bool.{Bool, true, false, _&&_, _||_, and-assoc}
+use mathlib.Core.Logic.{_↔_}
+use native.Mathlib.Nat.{add-zero, div-add-mod', pow-zero, pow-succ', lt-of-not-le, not-le-of-lt}
+use native.Mathlib.Omega.{arith}
+use lib.Dec.{eqb, leb}
+use borrow.Author.Tests.{leb-true, leb-false, le-leb, lt-leb, eqb-true, eqb-false, eq-eqb, ne-eqb}
+use Rattle.flags.specs.declared.Flags.{Flags}
+use Rattle.alu.specs.declared.types.Byte.{Byte}
+use Rattle.alu.specs.declared.types.Word.{Word}
+use Rattle.alu.specs.Widths.{chain}
+use Rattle.alu.proofs.CarryLaws.{low-byte, high-bytes}
+use Rattle.alu.proofs.OneByte.{Plain}
+
+-- orders that go together have tests that go together
+leb-same : (a b c d : ℕ) → (a ≤ b) ↔ (c ≤ d) → leb a b ≡ leb c d
+leb-same a b c d e = go (leb c d) refl
+  where
+    go : (t : Bool) → leb c d ≡ t → leb a b ≡ t
+    go true q = le-leb a b (e .1 (leb-true c d q))
+    go false q = lt-leb a b (lt-of-not-le (λ h. not-le-of-lt (leb-false c d q) (e .0 h)))
+
+-- a byte and the bytes above it are 0 together
+zero-joined : (v w : ℕ) → (eqb v 0 && eqb w 0) ≡ eqb (v + 256 * w) 0
+zero-joined v w = go (eqb v 0) (eqb w 0) refl refl
+  where
+    go : (s t : Bool) → eqb v 0 ≡ s → eqb w 0 ≡ t → (s && t) ≡ eqb (v + 256 * w) 0
+    go true true p q = sym (eq-eqb (v + 256 * w) 0 (omega (arith, eqb-true v 0 p, eqb-true w 0 q)))
+    go true false p q = sym (ne-eqb (v + 256 * w) 0 (λ e. eqb-false w 0 q (omega arith)))
+    go false t p q = sym (ne-eqb (v + 256 * w) 0 (λ e. eqb-false v 0 p (omega arith)))
+
+-- the top one of n + 1 bytes
+abbrev pub topOf : ℕ → ℕ → ℕ
+topOf zero a = a % 256
+topOf (suc n) a = topOf n (a / 256)
+
+-- its top bit says that the word is at least half of 256^(n + 1)
+pub top-bit : (n a : ℕ) → a < 256 ^ suc n → leb 128 (topOf n a) ≡ leb (128 * 256 ^ n) a
+top-bit zero a p = leb-same 128 (a % 256) (128 * 256 ^ 0) a (omega arith)
+top-bit (suc n) a p =
+    let q : a < 256 * (256 * 256 ^ n) = rw (pow-succ', pow-succ') at p in
+    top-bit n (a / 256) (rw pow-succ' (omega arith))
+    ∙ leb-same (128 * 256 ^ n) (a / 256) (128 * 256 ^ suc n) a (rw pow-succ' (omega arith))
+
+module _ (byte : (first top : Bool) → (a b : ℕ) → Flags → Byte) where
+  module _ (plain : Plain byte) where
+    -- n bytes are below 256^n
+    pub chain-small : (n : ℕ) (first : Bool) (a b : ℕ) (f : Flags) → chain byte n first a b f .word < 256 ^ n
+    chain-small zero first a b f = rw pow-zero (omega arith)
+    chain-small (suc n) first a b f =
+        let l : Byte = byte first (eqb n 0) (a % 256) (b % 256) f in
+        rw pow-succ' (omega (
+          arith,
+          plain .small first (eqb n 0) (a % 256) (b % 256) f (omega arith) (omega arith),
+          chain-small n false (a / 256) (b / 256) (l .flags),
+        ))
+
+    -- a flag that the top byte sets by the operands' bytes and its own is set by the words' top bytes
+    module _ (flag : Flags → Bool) (rule : (a b w : ℕ) → Bool) (d : Bool)
+        (law : (first : Bool) (a b : ℕ) (f : Flags) → a < 256 → b < 256 → f .decimal ≡ d
+            → flag (byte first true a b f .flags) ≡ rule a b (byte first true a b f .byte)) where
+      pub top-flag : (n : ℕ) (first : Bool) (a b : ℕ) (f : Flags) → f .decimal ≡ d
+          → let r : Word = chain byte (suc n) first a b f in
+          flag (r .flags) ≡ rule (topOf n a) (topOf n b) (topOf n (r .word))
+      top-flag zero first a b f m =
+          rw (low-byte 0 (plain .small first true (a % 256) (b % 256) f (omega arith) (omega arith)))
+          (law first (a % 256) (b % 256) f (omega arith) (omega arith) m)
+      top-flag (suc n) first a b f m =
+          let l : Byte = byte first (eqb (suc n) 0) (a % 256) (b % 256) f in
+          let h : Word = chain byte (suc n) false (a / 256) (b / 256) (l .flags) in
+          rw (high-bytes (h .word) (plain .small first (eqb (suc n) 0) (a % 256) (b % 256) f (omega arith) (omega arith)))
+          (top-flag n false (a / 256) (b / 256) (l .flags) (plain .mode first (eqb (suc n) 0) (a % 256) (b % 256) f ∙ m))
+
+  -- Z of the bytes is Z of the word
+  module _ (law : (first top : Bool) (a b : ℕ) (f : Flags)
+      → let r : Byte = byte first top a b f in r .flags .zero ≡ ((first || f .zero) && eqb (r .byte) 0)) where
+    pub zero-flag : (n : ℕ) (first : Bool) (a b : ℕ) (f : Flags)
+        → let r : Word = chain byte (suc n) first a b f in r .flags .zero ≡ ((first || f .zero) && eqb (r .word) 0)
+    zero-flag zero first a b f = rw (law first true (a % 256) (b % 256) f, add-zero)
+    zero-flag (suc n) first a b f =
+        let l : Byte = byte first (eqb (suc n) 0) (a % 256) (b % 256) f in
+        zero-flag n false (a / 256) (b / 256) (l .flags) ∙ rw (law first (eqb (suc n) 0) (a % 256) (b % 256) f, and-assoc, zero-joined)
+
+  -- an operation that makes each byte of two bytes makes the word of two words
+  module _ (make : ℕ → ℕ → ℕ) (none : make 0 0 ≡ 0)
+      (block : (h k l m : ℕ) → l < 256 → m < 256 → make (h * 256 + l) (k * 256 + m) ≡ make h k * 256 + make l m)
+      (law : (first top : Bool) (a b : ℕ) (f : Flags) → byte first top a b f .byte ≡ make a b) where
+    pub made : (n : ℕ) (first : Bool) (a b : ℕ) (f : Flags) → a < 256 ^ n → b < 256 ^ n → chain byte n first a b f .word ≡ make a b
+    made zero first a b f p q =
+        let a-none : a ≡ 0 = omega (arith, rw pow-zero at p) in
+        let b-none : b ≡ 0 = omega (arith, rw pow-zero at q) in
+        rw (a-none, b-none, none)
+    made (suc n) first a b f p q =
+        let p′ : a < 256 * 256 ^ n = rw pow-succ' at p in
+        let q′ : b < 256 * 256 ^ n = rw pow-succ' at q in
+        let l : Byte = byte first (eqb n 0) (a % 256) (b % 256) f in
+        let joined = block (a / 256) (b / 256) (a % 256) (b % 256) (omega arith) (omega arith) in
+        rw (made n false (a / 256) (b / 256) (l .flags) (omega arith) (omega arith), law)
+        (omega (arith, rw (div-add-mod' a 256, div-add-mod' b 256) at joined))
