@@ -14,22 +14,28 @@ use Rattle.alu.specs.Widths.{chain}
 use Rattle.alu.proofs.CarryLaws.{low-byte, high-bytes}
 use Rattle.alu.proofs.OneByte.{Plain}
 
--- orders that go together have tests that go together
-leb-same : (a b c d : ℕ) → (a ≤ b) ↔ (c ≤ d) → leb a b ≡ leb c d
+-- facts that go together have tests that go together
+pub leb-same : (a b c d : ℕ) → (a ≤ b) ↔ (c ≤ d) → leb a b ≡ leb c d
 leb-same a b c d e = go (leb c d) refl
   where
     go : (t : Bool) → leb c d ≡ t → leb a b ≡ t
     go true q = le-leb a b (e .1 (leb-true c d q))
     go false q = lt-leb a b (lt-of-not-le (λ h. not-le-of-lt (leb-false c d q) (e .0 h)))
 
+pub eqb-same : (a b c d : ℕ) → (a ≡ b) ↔ (c ≡ d) → eqb a b ≡ eqb c d
+eqb-same a b c d e = go (eqb c d) refl
+  where
+    go : (t : Bool) → eqb c d ≡ t → eqb a b ≡ t
+    go true q = eq-eqb a b (e .1 (eqb-true c d q))
+    go false q = ne-eqb a b (λ h. eqb-false c d q (e .0 h))
+
 -- a byte and the bytes above it are 0 together
 zero-joined : (v w : ℕ) → (eqb v 0 && eqb w 0) ≡ eqb (v + 256 * w) 0
-zero-joined v w = go (eqb v 0) (eqb w 0) refl refl
+zero-joined v w = go (eqb v 0) refl
   where
-    go : (s t : Bool) → eqb v 0 ≡ s → eqb w 0 ≡ t → (s && t) ≡ eqb (v + 256 * w) 0
-    go true true p q = sym (eq-eqb (v + 256 * w) 0 (omega (arith, eqb-true v 0 p, eqb-true w 0 q)))
-    go true false p q = sym (ne-eqb (v + 256 * w) 0 (λ e. eqb-false w 0 q (omega arith)))
-    go false t p q = sym (ne-eqb (v + 256 * w) 0 (λ e. eqb-false v 0 p (omega arith)))
+    go : (s : Bool) → eqb v 0 ≡ s → (s && eqb w 0) ≡ eqb (v + 256 * w) 0
+    go true p = let none : v ≡ 0 = eqb-true v 0 p in eqb-same w 0 (v + 256 * w) 0 (omega arith)
+    go false p = sym (ne-eqb (v + 256 * w) 0 (λ e. eqb-false v 0 p (omega arith)))
 
 -- the top one of n + 1 bytes
 abbrev pub topOf : ℕ → ℕ → ℕ

@@ -1,4 +1,5 @@
 pub mod CarryLaws
+pub mod Compare
 pub mod FlagLaws
 pub mod OneByte
 pub mod Widths
