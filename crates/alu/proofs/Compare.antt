@@ -80,7 +80,7 @@ compared n a b f p q =
     let t = sbc-binary (suc n) true a b g p q refl in
     let e : d .word + b ≡ a + 256 ^ suc n * bit (not (d .flags .carry)) = omega (arith, t .same) in
     let same : Alike (chain (operated Cmp) (suc n) true a b f .flags) (d .flags) =
-        alike n true a b f g (record { mode = refl; carry = refl; zero = refl }) in
+    alike n true a b f g (record { mode = refl; carry = refl; zero = refl }) in
     record {
       kept = kept (suc n) true a b f p q;
       carry = sym (same .beside .carry) ∙ no-borrow (256 ^ suc n) a b (d .word) (t .small) q (d .flags .carry) e;

@@ -66,7 +66,7 @@ module _ (byte : (first top : Bool) → (a b : ℕ) → Flags → Byte) where
     -- a flag that the top byte sets by the operands' bytes and its own is set by the words' top bytes
     module _ (flag : Flags → Bool) (rule : (a b w : ℕ) → Bool) (d : Bool)
         (law : (first : Bool) (a b : ℕ) (f : Flags) → a < 256 → b < 256 → f .decimal ≡ d
-            → flag (byte first true a b f .flags) ≡ rule a b (byte first true a b f .byte)) where
+        → flag (byte first true a b f .flags) ≡ rule a b (byte first true a b f .byte)) where
       pub top-flag : (n : ℕ) (first : Bool) (a b : ℕ) (f : Flags) → f .decimal ≡ d
           → let r : Word = chain byte (suc n) first a b f in
           flag (r .flags) ≡ rule (topOf n a) (topOf n b) (topOf n (r .word))

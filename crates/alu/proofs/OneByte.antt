@@ -27,15 +27,15 @@ operated-small Bit first top a b f p q = p
 operated-small BitImmediate first top a b f p q = p
 operated-small Load first top a b f p q = q
 
-left-small : (first top : Bool) (b : ℕ) (f : Flags) → b < 256 → leftByte first top b f .byte < 256
+pub left-small : (first top : Bool) (b : ℕ) (f : Flags) → b < 256 → leftByte first top b f .byte < 256
 unfolding leftByte
 left-small first top b f p = omega (arith, bit-not (f .carry))
 
-right-small : (first top : Bool) (b : ℕ) (f : Flags) → b < 256 → rightByte first top b f .byte < 256
+pub right-small : (first top : Bool) (b : ℕ) (f : Flags) → b < 256 → rightByte first top b f .byte < 256
 unfolding rightByte
 right-small first top b f p = omega (arith, bit-not (f .carry))
 
-step-small : (by : ℕ) (first top : Bool) (b : ℕ) (f : Flags) → stepByte by first top b f .byte < 256
+pub step-small : (by : ℕ) (first top : Bool) (b : ℕ) (f : Flags) → stepByte by first top b f .byte < 256
 unfolding stepByte
 step-small by first top b f = adc-small false b by (f .carry)
 
