@@ -64,11 +64,12 @@ pub record OnlyZero (first : Bool) (a b : ℕ) (f : Flags) (r : Word) : Type 0 w
   pub negative : r .flags .negative ≡ f .negative
   pub overflow : r .flags .overflow ≡ f .overflow
 
-same-signs : (n : ℕ) (first : Bool) (a b : ℕ) (f g : Flags) → f .negative ≡ g .negative → f .overflow ≡ g .overflow
-    → let r : Word = chain (operated BitImmediate) n first a b f in (r .flags .negative ≡ g .negative) × (r .flags .overflow ≡ g .overflow)
+same-signs : (n : ℕ) (first : Bool) (a b : ℕ) (f : Flags)
+    → let r : Word = chain (operated BitImmediate) n first a b f in (r .flags .negative ≡ f .negative) × (r .flags .overflow ≡ f .overflow)
 unfolding bitByte
-same-signs zero first a b f g e h = (e, h)
-same-signs (suc n) first a b f g e h = same-signs n false (a / 256) (b / 256) _ g e h
+same-signs zero first a b f = (refl, refl)
+same-signs (suc n) first a b f =
+    same-signs n false (a / 256) (b / 256) (operated BitImmediate first (eqb n 0) (a % 256) (b % 256) f .flags)
 
 pub only-zero : (n : ℕ) (first : Bool) (a b : ℕ) (f : Flags) → a < 256 ^ suc n → b < 256 ^ suc n
     → OnlyZero first a b f (chain (operated BitImmediate) (suc n) first a b f)
@@ -76,6 +77,6 @@ unfolding bitByte
 only-zero n first a b f p q = record {
   kept = made (operated BitImmediate) (λ x y. x) refl (λ h k l m s t. refl) (λ first top a b f. refl) (suc n) first a b f p q;
   zero = bit-zero BitImmediate (λ first top a b f. refl) n first a b f p q;
-  negative = same-signs (suc n) first a b f f refl refl .0;
-  overflow = same-signs (suc n) first a b f f refl refl .1;
+  negative = same-signs (suc n) first a b f .0;
+  overflow = same-signs (suc n) first a b f .1;
 }

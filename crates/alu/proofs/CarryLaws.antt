@@ -1,9 +1,9 @@
 -- The carry leads from byte to byte: what a byte adds or takes, n bytes add or take. Binary numbers and decimal ones alike:
 -- a byte's worth is `of` it, and each byte counts `base` times as much as the one below.
-use Prim.Native.Nat.{ℕ, zero, suc, _+_, _*_, _/_, _%_, _^_, _<_}
+use Prim.Native.Nat.{ℕ, zero, suc, _+_, _-_, _*_, _/_, _%_, _^_, _≤_, _<_}
 use mathlib.Core.Path.{_≡_, refl, ap}
 use mathlib.Core.Bool.{Bool, true, false, not}
-use native.Mathlib.Nat.{pow-zero, pow-succ', mod-lt}
+use native.Mathlib.Nat.{pow-zero, pow-succ', add-mod-right, mod-eq-of-lt}
 use native.Mathlib.Omega.{arith}
 use lib.Dec.{eqb}
 use Rattle.words.specs.Words.{bit}
@@ -101,3 +101,11 @@ module _ (Says : Equation) where
           small = below n w (r .bytes);
           same = rw (whole n a (bytes-of n a p), whole n b (bytes-of n b q), whole n w (r .bytes)) at (r .same);
         }
+
+-- a number inside m is what is left when a carry of m is dropped, or a borrow of m lent
+pub wrapped : (m w x : ℕ) (t : Bool) → w < m → w + m * bit t ≡ x → x % m ≡ w
+wrapped m w x true p e = let up : x ≡ w + m = omega arith in rw (up, add-mod-right, mod-eq-of-lt p)
+wrapped m w x false p e = let same : x ≡ w = omega arith in rw (same, mod-eq-of-lt p)
+
+pub difference : (m a b w : ℕ) (t : Bool) → w < m → b ≤ m → w + b ≡ a + m * bit (not t) → (a + (m - b)) % m ≡ w
+difference m a b w t p q e = wrapped m w (a + (m - b)) t p (omega (arith, ap (λ (x : ℕ). m * x) (bit-not t)))

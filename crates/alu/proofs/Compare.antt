@@ -2,7 +2,6 @@
 use Prim.Native.Nat.{ℕ, zero, suc, _+_, _-_, _*_, _/_, _%_, _^_, _≤_, _<_}
 use mathlib.Core.Path.{_≡_, refl, sym, _∙_}
 use mathlib.Core.Bool.{Bool, true, false, not, _||_}
-use native.Mathlib.Nat.{mod-eq-of-lt, add-mod-right}
 use native.Mathlib.Omega.{arith}
 use lib.Dec.{eqb, leb}
 use borrow.Author.Tests.{le-leb, lt-leb}
@@ -14,6 +13,7 @@ use Rattle.alu.specs.declared.types.Alu.the-variants.{Cmp, Sbc}
 use Rattle.alu.specs.declared.types.Byte.{Byte}
 use Rattle.alu.specs.declared.types.Word.{Word}
 use Rattle.alu.specs.Widths.{chain}
+use Rattle.alu.proofs.CarryLaws.{difference}
 use Rattle.alu.proofs.FlagLaws.{eqb-same, made}
 use Rattle.alu.proofs.Widths.{sbc-binary, result-zero, result-sign}
 
@@ -62,10 +62,6 @@ module _ (m a b w : ℕ) (small : w < m) (fits : b < m) where
   no-difference true e p = eqb-same w 0 a b (omega arith)
   no-difference false e p = eqb-same w 0 a b (omega arith)
 
-  pub difference : (t : Bool) → w + b ≡ a + m * bit (not t) → (a + (m - b)) % m ≡ w
-  difference true e = let up : a + (m - b) ≡ w + m = omega arith in rw (up, add-mod-right, mod-eq-of-lt small)
-  difference false e = let same : a + (m - b) ≡ w = omega arith in rw (same, mod-eq-of-lt small)
-
 pub record Compared (n a b : ℕ) (r : Word) : Type 0 where
   pub kept : r .word ≡ a
   pub carry : r .flags .carry ≡ leb b a
@@ -85,5 +81,5 @@ compared n a b f p q =
       kept = kept (suc n) true a b f p q;
       carry = sym (same .beside .carry) ∙ no-borrow (256 ^ suc n) a b (d .word) (t .small) q (d .flags .carry) e;
       zero = sym (same .beside .zero) ∙ result-zero Sbc tt n true a b g ∙ no-difference (256 ^ suc n) a b (d .word) (t .small) q (d .flags .carry) e p;
-      negative = rw (difference (256 ^ suc n) a b (d .word) (t .small) q (d .flags .carry) e) (sym (same .negative) ∙ result-sign Sbc tt n true a b g);
+      negative = rw (difference (256 ^ suc n) a b (d .word) (d .flags .carry) (t .small) (omega arith) e) (sym (same .negative) ∙ result-sign Sbc tt n true a b g);
     }

@@ -1,9 +1,9 @@
 -- Words and flags over n bytes, for any operation: what a byte-wise one makes of words, Z of all bytes, N and V of the top one.
 use Prim.Native.Nat.{ℕ, zero, suc, _+_, _*_, _/_, _%_, _^_, _≤_, _<_}
-use mathlib.Core.Path.{_≡_, refl, sym, _∙_}
+use mathlib.Core.Path.{_≡_, refl, ap, sym, _∙_}
 use mathlib.Core.Bool.{Bool, true, false, _&&_, _||_, and-assoc}
 use mathlib.Core.Logic.{_↔_}
-use native.Mathlib.Nat.{add-zero, div-add-mod', pow-zero, pow-succ', lt-of-not-le, not-le-of-lt}
+use native.Mathlib.Nat.{add-zero, mul-le-mul-right, div-add-mod', pow-zero, pow-succ'}
 use native.Mathlib.Omega.{arith}
 use lib.Dec.{eqb, leb}
 use borrow.Author.Tests.{leb-true, leb-false, le-leb, lt-leb, eqb-true, eqb-false, eq-eqb, ne-eqb}
@@ -15,12 +15,12 @@ use Rattle.alu.proofs.CarryLaws.{low-byte, high-bytes}
 use Rattle.alu.proofs.OneByte.{Plain}
 
 -- facts that go together have tests that go together
-pub leb-same : (a b c d : ℕ) → (a ≤ b) ↔ (c ≤ d) → leb a b ≡ leb c d
-leb-same a b c d e = go (leb c d) refl
+pub leb-same : (a b c d : ℕ) → (a ≤ b → c ≤ d) → (b < a → d < c) → leb a b ≡ leb c d
+leb-same a b c d yea nay = go (leb a b) refl
   where
-    go : (t : Bool) → leb c d ≡ t → leb a b ≡ t
-    go true q = le-leb a b (e .1 (leb-true c d q))
-    go false q = lt-leb a b (lt-of-not-le (λ h. not-le-of-lt (leb-false c d q) (e .0 h)))
+    go : (t : Bool) → leb a b ≡ t → t ≡ leb c d
+    go true q = sym (le-leb c d (yea (leb-true a b q)))
+    go false q = sym (lt-leb c d (nay (leb-false a b q)))
 
 pub eqb-same : (a b c d : ℕ) → (a ≡ b) ↔ (c ≡ d) → eqb a b ≡ eqb c d
 eqb-same a b c d e = go (eqb c d) refl
@@ -29,13 +29,15 @@ eqb-same a b c d e = go (eqb c d) refl
     go true q = eq-eqb a b (e .1 (eqb-true c d q))
     go false q = ne-eqb a b (λ h. eqb-false c d q (e .0 h))
 
--- a byte and the bytes above it are 0 together
-zero-joined : (v w : ℕ) → (eqb v 0 && eqb w 0) ≡ eqb (v + 256 * w) 0
-zero-joined v w = go (eqb v 0) refl
+-- the bytes below and the bytes above are 0 together
+pub zero-joined : (m v w : ℕ) → 0 < m → (eqb v 0 && eqb w 0) ≡ eqb (v + m * w) 0
+zero-joined m v w p = go (eqb v 0) refl
   where
-    go : (s : Bool) → eqb v 0 ≡ s → (s && eqb w 0) ≡ eqb (v + 256 * w) 0
-    go true p = let none : v ≡ 0 = eqb-true v 0 p in eqb-same w 0 (v + 256 * w) 0 (omega arith)
-    go false p = sym (ne-eqb (v + 256 * w) 0 (λ e. eqb-false v 0 p (omega arith)))
+    go : (s : Bool) → eqb v 0 ≡ s → (s && eqb w 0) ≡ eqb (v + m * w) 0
+    go true q =
+        let none : v ≡ 0 = eqb-true v 0 q in
+        eqb-same w 0 (v + m * w) 0 (λ e. omega (arith, ap (λ (x : ℕ). m * x) e), λ e. omega (arith, mul-le-mul-right w p))
+    go false q = sym (ne-eqb (v + m * w) 0 (λ e. eqb-false v 0 q (omega arith)))
 
 -- the top one of n + 1 bytes
 abbrev pub topOf : ℕ → ℕ → ℕ
@@ -44,11 +46,11 @@ topOf (suc n) a = topOf n (a / 256)
 
 -- its top bit says that the word is at least half of 256^(n + 1)
 pub top-bit : (n a : ℕ) → a < 256 ^ suc n → leb 128 (topOf n a) ≡ leb (128 * 256 ^ n) a
-top-bit zero a p = leb-same 128 (a % 256) (128 * 256 ^ 0) a (omega arith)
+top-bit zero a p = leb-same 128 (a % 256) (128 * 256 ^ 0) a (omega arith) (omega arith)
 top-bit (suc n) a p =
     let q : a < 256 * (256 * 256 ^ n) = rw (pow-succ', pow-succ') at p in
     top-bit n (a / 256) (rw pow-succ' (omega arith))
-    ∙ leb-same (128 * 256 ^ n) (a / 256) (128 * 256 ^ suc n) a (rw pow-succ' (omega arith))
+    ∙ leb-same (128 * 256 ^ n) (a / 256) (128 * 256 ^ suc n) a (rw pow-succ' (omega arith)) (rw pow-succ' (omega arith))
 
 module _ (byte : (first top : Bool) → (a b : ℕ) → Flags → Byte) where
   module _ (plain : Plain byte) where
@@ -87,7 +89,7 @@ module _ (byte : (first top : Bool) → (a b : ℕ) → Flags → Byte) where
     zero-flag zero first a b f = rw (law first true (a % 256) (b % 256) f, add-zero)
     zero-flag (suc n) first a b f =
         let l : Byte = byte first (eqb (suc n) 0) (a % 256) (b % 256) f in
-        zero-flag n false (a / 256) (b / 256) (l .flags) ∙ rw (law first (eqb (suc n) 0) (a % 256) (b % 256) f, and-assoc, zero-joined)
+        zero-flag n false (a / 256) (b / 256) (l .flags) ∙ rw (law first (eqb (suc n) 0) (a % 256) (b % 256) f, and-assoc, zero-joined 256 (l .byte) _ (omega arith))
 
   -- an operation that makes each byte of two bytes makes the word of two words
   module _ (make : ℕ → ℕ → ℕ) (none : make 0 0 ≡ 0)

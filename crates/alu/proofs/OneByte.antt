@@ -5,6 +5,7 @@ use mathlib.Core.Bool.{Bool, true, false, _&&_, _||_}
 use native.Mathlib.Omega.{arith}
 use lib.Dec.{T, eqb, leb}
 use lib.Bits.{and-lt, or-lt, xor-lt}
+use Rattle.words.specs.Words.{pick}
 use Rattle.flags.specs.declared.Flags.{Flags}
 use Rattle.adder.proofs.BinaryLaws.{adc-small, sbc-small, bit-not}
 use Rattle.alu.specs.Alu.{nz, summed, adcByte, sbcByte, cmpByte, andByte, oraByte, eorByte, bitByte, loadByte, operated, leftByte, rightByte, stepByte, shifted}
@@ -97,3 +98,21 @@ tells Eor w = record { zero = λ first top a b f. refl; sign = λ first a b f. r
 tells Bit w = absurd w
 tells BitImmediate w = absurd w
 tells Load w = record { zero = λ first top a b f. refl; sign = λ first a b f. refl }
+
+-- a shift or a step says the same of its byte; below the top byte N stays, and D stays
+pub record Shown (first top : Bool) (f : Flags) (r : Byte) : Type 0 where
+  pub zero : r .flags .zero ≡ ((first || f .zero) && eqb (r .byte) 0)
+  pub sign : r .flags .negative ≡ pick top (leb 128 (r .byte)) (f .negative)
+  pub mode : r .flags .decimal ≡ f .decimal
+
+pub shown : (k : Shift) (first top : Bool) (b : ℕ) (f : Flags) → Shown first top f (shifted k first top b f)
+unfolding leftByte rightByte stepByte nz
+shown Asl first top b f = record { zero = refl; sign = refl; mode = refl }
+shown Rol first top b f = record { zero = refl; sign = refl; mode = refl }
+shown Lsr first top b f = record { zero = refl; sign = refl; mode = refl }
+shown Ror first top b f = record { zero = refl; sign = refl; mode = refl }
+shown Inc first top b f = record { zero = refl; sign = refl; mode = refl }
+shown Dec first top b f = record { zero = refl; sign = refl; mode = refl }
+
+pub shifted-plain : (k : Shift) → Plain (λ first top a b f. shifted k first top a f)
+shifted-plain k = record { small = λ first top a b f p q. shifted-small k first top a f p; mode = λ first top a b f. shown k first top a f .mode }

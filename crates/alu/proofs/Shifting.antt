@@ -1,21 +1,23 @@
 -- Shifts and steps over n bytes: a shift to the left doubles, one to the right halves, INC and DEC step inside 256^n.
 use Prim.Native.Nat.{ℕ, zero, suc, _+_, _-_, _*_, _/_, _%_, _^_, _≤_, _<_}
 use mathlib.Core.Path.{_≡_, refl, ap, sym, _∙_}
-use mathlib.Core.Bool.{Bool, true, false, not, _||_}
-use native.Mathlib.Nat.{pow-zero, pow-succ', one-le-pow, mod-lt, div-lt-iff-lt-mul, div-add-mod}
+use mathlib.Core.Bool.{Bool, true, false, not, _&&_, _||_, and-assoc, and-comm}
+use native.Mathlib.Nat.{pow-zero, pow-succ', one-le-pow, mul-le-mul-left, one-mul, zero-add, mod-lt, div-lt-iff-lt-mul, div-add-mod}
 use native.Mathlib.Omega.{arith}
 use lib.Dec.{eqb, leb}
 use borrow.Author.Tests.{leb-true, leb-false, eqb-true, eqb-false}
-use Rattle.words.specs.Words.{bit}
+use Rattle.words.specs.Words.{pick, bit}
 use Rattle.flags.specs.declared.Flags.{Flags}
 use Rattle.adder.specs.Adder.{adcOf}
 use Rattle.adder.proofs.BinaryLaws.{adc-adds, bit-not}
-use Rattle.alu.specs.Alu.{leftByte, rightByte, stepByte, nz}
+use Rattle.alu.specs.Alu.{leftByte, rightByte, stepByte, nz, shifted, fromTop}
+use Rattle.alu.specs.declared.types.Shift.{Shift}
 use Rattle.alu.specs.declared.types.Byte.{Byte}
 use Rattle.alu.specs.declared.types.Word.{Word}
-use Rattle.alu.specs.Widths.{lefts, rights}
-use Rattle.alu.proofs.CarryLaws.{Equation, Rule, OfByte, Any, itself, Binary, binary}
-use Rattle.alu.proofs.OneByte.{left-small, right-small, step-small}
+use Rattle.alu.specs.Widths.{lefts, rights, through}
+use Rattle.alu.proofs.CarryLaws.{Equation, Rule, OfByte, Any, itself, Binary, binary, wrapped, difference}
+use Rattle.alu.proofs.FlagLaws.{leb-same, zero-joined, chain-small, top-bit, top-flag, zero-flag}
+use Rattle.alu.proofs.OneByte.{left-small, right-small, step-small, shifted-small, shown, shifted-plain}
 
 -- the carry comes in at the low end and what the word can't hold goes out
 abbrev pub Doubled : Equation
@@ -64,15 +66,28 @@ module _ (d first top : Bool) (a b : ℕ) (f : Flags) (p : a < 256) (q : b < 256
         );
   }
 
+positive : (n : ℕ) → 0 < 256 ^ n
+positive n = one-le-pow n 256 (omega arith)
+
 module _ (n : ℕ) (first : Bool) (v : ℕ) (f : Flags) (p : v < 256 ^ n) where
+  -- ASL and ROL
   pub left-word : Binary Doubled n v 0 f (lefts leftByte n first v f)
-  left-word = binary Doubled doubled (f .decimal) (λ first top a b g. leftByte first top a g) (left-byte (f .decimal)) n first v 0 f p (one-le-pow n 256 (omega arith)) refl
+  left-word = binary Doubled doubled (f .decimal) (λ first top a b g. leftByte first top a g) (left-byte (f .decimal)) n first v 0 f p (positive n) refl
 
-  pub inc-word : Binary Raised n v 0 f (lefts (stepByte 0) n first v f)
-  inc-word = binary Raised raised (f .decimal) (λ first top a b g. stepByte 0 first top a g) (raised-byte (f .decimal)) n first v 0 f p (one-le-pow n 256 (omega arith)) refl
+  -- INC goes in with a carry, and DEC with none
+  pub inc-word : f .carry ≡ true → lefts (stepByte 0) n first v f .word ≡ (v + 1) % 256 ^ n
+  inc-word c =
+      let w : Word = lefts (stepByte 0) n first v f in
+      let r : Binary Raised n v 0 f w =
+          binary Raised raised (f .decimal) (λ first top a b g. stepByte 0 first top a g) (raised-byte (f .decimal)) n first v 0 f p (positive n) refl in
+      sym (wrapped (256 ^ n) (w .word) (v + 1) (w .flags .carry) (r .small) (omega (arith, r .same, ap bit c)))
 
-  pub dec-word : Binary Lowered n v 0 f (lefts (stepByte 255) n first v f)
-  dec-word = binary Lowered lowered (f .decimal) (λ first top a b g. stepByte 255 first top a g) (lowered-byte (f .decimal)) n first v 0 f p (one-le-pow n 256 (omega arith)) refl
+  pub dec-word : f .carry ≡ false → lefts (stepByte 255) n first v f .word ≡ (v + (256 ^ n - 1)) % 256 ^ n
+  dec-word c =
+      let w : Word = lefts (stepByte 255) n first v f in
+      let r : Binary Lowered n v 0 f w =
+          binary Lowered lowered (f .decimal) (λ first top a b g. stepByte 255 first top a g) (lowered-byte (f .decimal)) n first v 0 f p (positive n) refl in
+      sym (difference (256 ^ n) v 1 (w .word) (w .flags .carry) (r .small) (positive n) (omega (arith, r .same, ap (λ (t : Bool). bit (not t)) c)))
 
 right-byte : (first top : Bool) (b : ℕ) (f : Flags) → b < 256
     → let r : Byte = rightByte first top b f in 2 * r .byte + bit (r .flags .carry) ≡ b + 256 * bit (f .carry)
@@ -89,12 +104,71 @@ pub right-word : (n : ℕ) (first : Bool) (v : ℕ) (f : Flags) → v < 256 ^ n
 right-word zero first v f p = let none : v ≡ 0 = omega (arith, rw pow-zero at p) in rw pow-zero (omega arith)
 right-word (suc n) first v f p =
     let h : Byte = rightByte first first (v / 256 ^ n) f in
-    let some : 0 < 256 ^ n = one-le-pow n 256 (omega arith) in
-    let top : v / 256 ^ n < 256 = div-lt-iff-lt-mul some .1 (rw pow-succ' at p) in
+    let top : v / 256 ^ n < 256 = div-lt-iff-lt-mul (positive n) .1 (rw pow-succ' at p) in
     rw pow-succ'
     (omega (
       arith,
       ap (λ (x : ℕ). 256 ^ n * x) (right-byte first first (v / 256 ^ n) f top),
-      right-word n false (v % 256 ^ n) (h .flags) (mod-lt v some),
+      right-word n false (v % 256 ^ n) (h .flags) (mod-lt v (positive n)),
       div-add-mod v (256 ^ n),
     ))
+
+-- ---- Z and N, from either end
+module _ (k : Shift) where
+  right-small-word : (n : ℕ) (first : Bool) (v : ℕ) (f : Flags) → v < 256 ^ n → rights (shifted k) n first v f .word < 256 ^ n
+  right-small-word zero first v f p = rw pow-zero (omega arith)
+  right-small-word (suc n) first v f p =
+      let top : v / 256 ^ n < 256 = div-lt-iff-lt-mul (positive n) .1 (rw pow-succ' at p) in
+      let h : Byte = shifted k first first (v / 256 ^ n) f in
+      rw pow-succ'
+      (omega (
+        arith,
+        mul-le-mul-left (256 ^ n) (shifted-small k first first (v / 256 ^ n) f top),
+        right-small-word n false (v % 256 ^ n) (h .flags) (mod-lt v (positive n)),
+      ))
+
+  right-zero : (n : ℕ) (first : Bool) (v : ℕ) (f : Flags)
+      → let r : Word = rights (shifted k) (suc n) first v f in r .flags .zero ≡ ((first || f .zero) && eqb (r .word) 0)
+  right-zero zero first v f = rw (shown k first first (v / 1) f .zero, one-mul, zero-add)
+  right-zero (suc n) first v f =
+      let h : Byte = shifted k first first (v / 256 ^ suc n) f in
+      let l : Word = rights (shifted k) (suc n) false (v % 256 ^ suc n) (h .flags) in
+      right-zero n false (v % 256 ^ suc n) (h .flags)
+      ∙ rw (shown k first first (v / 256 ^ suc n) f .zero, and-assoc, and-comm (eqb (h .byte) 0) (eqb (l .word) 0), zero-joined (256 ^ suc n) (l .word) (h .byte) (positive (suc n)))
+
+  right-keeps : (n : ℕ) (v : ℕ) (f : Flags) → rights (shifted k) n false v f .flags .negative ≡ f .negative
+  right-keeps zero v f = refl
+  right-keeps (suc n) v f = right-keeps n (v % 256 ^ n) _ ∙ shown k false false (v / 256 ^ n) f .sign
+
+  right-sign : (n v : ℕ) (f : Flags) → v < 256 ^ suc n
+      → let r : Word = rights (shifted k) (suc n) true v f in r .flags .negative ≡ leb (128 * 256 ^ n) (r .word)
+  right-sign n v f p =
+      let h : Byte = shifted k true true (v / 256 ^ n) f in
+      let l : Word = rights (shifted k) n false (v % 256 ^ n) (h .flags) in
+      let small : l .word < 256 ^ n = right-small-word n false (v % 256 ^ n) (h .flags) (mod-lt v (positive n)) in
+      right-keeps n (v % 256 ^ n) (h .flags)
+      ∙ shown k true true (v / 256 ^ n) f .sign
+      ∙ leb-same 128 (h .byte) (128 * 256 ^ n) (l .word + 256 ^ n * h .byte)
+      (λ e. omega (arith, mul-le-mul-left (256 ^ n) e))
+      (λ e. omega (arith, mul-le-mul-left (256 ^ n) e))
+
+  -- of a word that is shifted or stepped, as of any result
+  pub through-zero : (n v : ℕ) (f : Flags) → let r : Word = through k (suc n) v f in r .flags .zero ≡ eqb (r .word) 0
+  through-zero n v f = go (fromTop k)
+    where
+      go : (t : Bool) → let r : Word = pick t (rights (shifted k) (suc n) true v f) (lefts (shifted k) (suc n) true v f) in
+          r .flags .zero ≡ eqb (r .word) 0
+      go true = right-zero n true v f
+      go false = zero-flag (λ first top a b g. shifted k first top a g) (λ first top a b g. shown k first top a g .zero) n true v 0 f
+
+  pub through-sign : (n v : ℕ) (f : Flags) → v < 256 ^ suc n → let r : Word = through k (suc n) v f in r .flags .negative ≡ leb (128 * 256 ^ n) (r .word)
+  through-sign n v f p = go (fromTop k)
+    where
+      byte : (first top : Bool) → (a b : ℕ) → Flags → Byte
+      byte first top a b g = shifted k first top a g
+      go : (t : Bool) → let r : Word = pick t (rights (shifted k) (suc n) true v f) (lefts (shifted k) (suc n) true v f) in
+          r .flags .negative ≡ leb (128 * 256 ^ n) (r .word)
+      go true = right-sign n v f p
+      go false =
+          top-flag byte (shifted-plain k) (λ g. g .negative) (λ x y z. leb 128 z) (f .decimal) (λ first a b g s t m. shown k first true a g .sign) n true v 0 f refl
+          ∙ top-bit n _ (chain-small byte (shifted-plain k) (suc n) true v 0 f)

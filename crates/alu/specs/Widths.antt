@@ -2,7 +2,10 @@
 use Prim.Native.Nat.{ℕ, zero, suc, _+_, _*_, _/_, _%_, _^_}
 use mathlib.Core.Bool.{Bool, true, false}
 use lib.Dec.{eqb}
+use Rattle.words.specs.Words.{pick}
 use Rattle.flags.specs.declared.Flags.{Flags}
+use Rattle.alu.specs.Alu.{shifted, fromTop}
+use Rattle.alu.specs.declared.types.Shift.{Shift}
 use Rattle.alu.specs.declared.types.Byte.{Byte}
 use Rattle.alu.specs.declared.types.Word.{Word}
 
@@ -24,3 +27,7 @@ rights byte (suc n) first v f =
     let h : Byte = byte first first (v / 256 ^ n) f in
     let l : Word = rights byte n false (v % 256 ^ n) (h .flags) in
     record { word = l .word + 256 ^ n * h .byte; flags = l .flags }
+
+-- a shift or a step over n bytes, from the end at which its carry goes in
+abbrev pub through : Shift → ℕ → ℕ → Flags → Word
+through k n v f = pick (fromTop k) (rights (shifted k) n true v f) (lefts (shifted k) n true v f)
