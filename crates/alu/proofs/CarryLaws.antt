@@ -81,9 +81,9 @@ whole : (n a : ℕ) → Bytes Any n a → worth 256 itself n a ≡ a
 whole zero a p = omega arith
 whole (suc n) a p = omega (arith, whole n (a / 256) (p .1))
 
-below : (n a : ℕ) → Bytes Any n a → a < 256 ^ n
-below zero a p = rw pow-zero (omega arith)
-below (suc n) a p = let q : a / 256 < 256 ^ n = below n (a / 256) (p .1) in rw pow-succ' (omega arith)
+pub below : (Such : ℕ → Type 0) (n a : ℕ) → Bytes Such n a → a < 256 ^ n
+below Such zero a p = rw pow-zero (omega arith)
+below Such (suc n) a p = let q : a / 256 < 256 ^ n = below Such n (a / 256) (p .1) in rw pow-succ' (omega arith)
 
 module _ (Says : Equation) where
   pub record Binary (n a b : ℕ) (f : Flags) (r : Word) : Type 0 where
@@ -98,7 +98,7 @@ module _ (Says : Equation) where
         let r = carried Any 256 itself Says (λ b s. s) rule d byte law n first a b f (bytes-of n a p) (bytes-of n b q) m in
         let w : ℕ = chain byte n first a b f .word in
         record {
-          small = below n w (r .bytes);
+          small = below Any n w (r .bytes);
           same = rw (whole n a (bytes-of n a p), whole n b (bytes-of n b q), whole n w (r .bytes)) at (r .same);
         }
 

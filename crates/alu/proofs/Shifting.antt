@@ -115,16 +115,16 @@ right-word (suc n) first v f p =
 
 -- ---- Z and N, from either end
 module _ (k : Shift) where
-  right-small-word : (n : ℕ) (first : Bool) (v : ℕ) (f : Flags) → v < 256 ^ n → rights (shifted k) n first v f .word < 256 ^ n
-  right-small-word zero first v f p = rw pow-zero (omega arith)
-  right-small-word (suc n) first v f p =
+  pub right-below : (n : ℕ) (first : Bool) (v : ℕ) (f : Flags) → v < 256 ^ n → rights (shifted k) n first v f .word < 256 ^ n
+  right-below zero first v f p = rw pow-zero (omega arith)
+  right-below (suc n) first v f p =
       let top : v / 256 ^ n < 256 = div-lt-iff-lt-mul (positive n) .1 (rw pow-succ' at p) in
       let h : Byte = shifted k first first (v / 256 ^ n) f in
       rw pow-succ'
       (omega (
         arith,
         mul-le-mul-left (256 ^ n) (shifted-small k first first (v / 256 ^ n) f top),
-        right-small-word n false (v % 256 ^ n) (h .flags) (mod-lt v (positive n)),
+        right-below n false (v % 256 ^ n) (h .flags) (mod-lt v (positive n)),
       ))
 
   right-zero : (n : ℕ) (first : Bool) (v : ℕ) (f : Flags)
@@ -145,7 +145,7 @@ module _ (k : Shift) where
   right-sign n v f p =
       let h : Byte = shifted k true true (v / 256 ^ n) f in
       let l : Word = rights (shifted k) n false (v % 256 ^ n) (h .flags) in
-      let small : l .word < 256 ^ n = right-small-word n false (v % 256 ^ n) (h .flags) (mod-lt v (positive n)) in
+      let small : l .word < 256 ^ n = right-below n false (v % 256 ^ n) (h .flags) (mod-lt v (positive n)) in
       right-keeps n (v % 256 ^ n) (h .flags)
       ∙ shown k true true (v / 256 ^ n) f .sign
       ∙ leb-same 128 (h .byte) (128 * 256 ^ n) (l .word + 256 ^ n * h .byte)

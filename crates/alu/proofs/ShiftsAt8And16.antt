@@ -1,0 +1,73 @@
+-- Shifts and steps at 8 and at 16 bits are those through one byte and through two; so each law over n bytes is one at either width.
+-- At 8 bits the low byte is the result, and the high byte stays.
+use Prim.Native.Nat.{ℕ, _+_, _-_, _*_, _/_, _%_, _<_}
+use mathlib.Core.Path.{_≡_, refl, ap, sym, subst, _∙_}
+use mathlib.Core.Bool.{Bool, true, false}
+use native.Mathlib.Nat.{add-zero, zero-add, one-mul, div-one}
+use native.Mathlib.Omega.{arith}
+use lib.Dec.{eqb, leb}
+use Rattle.words.specs.Words.{pick, bit, word, lowSet}
+use Rattle.flags.specs.declared.Flags.{Flags}
+use Rattle.alu.specs.Alu.{shifted, shiftedAt, bothBytes, oneByte, ending, withCarry, carryIn, fromTop, leftByte, rightByte, stepByte}
+use Rattle.alu.specs.declared.types.Shift.{Shift}
+use Rattle.alu.specs.declared.types.Shift.the-variants.{Asl, Rol, Lsr, Ror, Inc, Dec}
+use Rattle.alu.specs.declared.types.Byte.{Byte}
+use Rattle.alu.specs.declared.types.Word.{Word}
+use Rattle.alu.specs.Widths.{lefts, rights, through}
+use Rattle.alu.proofs.At8And16.{above, lowPart, low-above, high-above}
+use Rattle.alu.proofs.FlagLaws.{chain-small}
+use Rattle.alu.proofs.OneByte.{shifted-small, shifted-plain}
+use Rattle.alu.proofs.Shifting.{left-word, right-word, inc-word, dec-word, right-below, through-zero, through-sign}
+
+module _ (k : Shift) (v : ℕ) where
+  both : (t : Bool) (g : Flags) → v < 65536 → bothBytes k t v g ≡ pick t (rights (shifted k) 2 true v g) (lefts (shifted k) 2 true v g)
+  unfolding word
+  both true g p =
+      let h : Byte = shifted k true true (v / 256) g in
+      let l : Byte = shifted k false false (v % 256) (h .flags) in
+      let small : l .byte < 256 = shifted-small k false false (v % 256) (h .flags) (omega arith) in
+      let same : l .byte % 256 + h .byte * 256 ≡ 0 + 1 * l .byte + 256 * h .byte = omega arith in
+      rw (div-one (v % 256)) (λ i. record { word = same i; flags = l .flags })
+  both false g p =
+      let l : Byte = shifted k true false (v % 256) g in
+      let h : Byte = shifted k false true (v / 256) (l .flags) in
+      let small : l .byte < 256 = shifted-small k true false (v % 256) g (omega arith) in
+      let high : v / 256 % 256 ≡ v / 256 = omega arith in
+      let same : l .byte % 256 + h .byte * 256 ≡ l .byte + 256 * (h .byte + 0) = omega arith in
+      rw high (λ i. record { word = same i; flags = h .flags })
+
+  one : (t : Bool) (g : Flags) → oneByte k v g ≡ above v (pick t (rights (shifted k) 1 true (v % 256) g) (lefts (shifted k) 1 true (v % 256) g))
+  one true g = rw (div-one (v % 256), one-mul, zero-add)
+  one false g = let low : v % 256 % 256 ≡ v % 256 = omega arith in rw (low, add-zero)
+
+  small : (t : Bool) (g : Flags) → pick t (rights (shifted k) 1 true (v % 256) g) (lefts (shifted k) 1 true (v % 256) g) .word < 256
+  small true g = right-below k 1 true (v % 256) g (omega arith)
+  small false g = chain-small (λ first top a b f. shifted k first top a f) (shifted-plain k) 1 true (v % 256) 0 g
+
+module _ (k : Shift) (v : ℕ) (f : Flags) where
+  -- the carry that goes in, and what comes out of n bytes
+  abbrev into : Flags
+  into = withCarry (carryIn k (f .carry)) f
+
+  -- 16 bits are two bytes
+  pub two-bytes : v < 65536 → shiftedAt k true v f ≡ ending k (f .carry) (through k 2 v into)
+  two-bytes p = ap (ending k (f .carry)) (both k v (fromTop k) into p)
+
+  -- 8 bits are one, below the register's high byte
+  pub one-byte : shiftedAt k false v f ≡ above v (ending k (f .carry) (through k 1 (v % 256) into))
+  one-byte = ap (ending k (f .carry)) (one k v (fromTop k) into)
+
+  -- at 8 bits the high byte stays
+  pub high-kept : shiftedAt k false v f .word / 256 ≡ v / 256
+  high-kept =
+      ap (λ (r : Word). r .word / 256) one-byte ∙ high-above v (ending k (f .carry) (through k 1 (v % 256) into)) (small k v (fromTop k) into)
+
+  -- what holds of the bytes holds at the width
+  module _ (Says : Word → Type 0) where
+    pub at-8 : Says (ending k (f .carry) (through k 1 (v % 256) into)) → Says (lowPart (shiftedAt k false v f))
+    at-8 =
+        subst Says
+        (sym (ap lowPart one-byte ∙ low-above v (ending k (f .carry) (through k 1 (v % 256) into)) (small k v (fromTop k) into)))
+
+    pub at-16 : v < 65536 → Says (ending k (f .carry) (through k 2 v into)) → Says (shiftedAt k true v f)
+    at-16 p = subst Says (sym (two-bytes p))
