@@ -79,14 +79,14 @@ module _ (n : ℕ) (first : Bool) (v : ℕ) (f : Flags) (p : v < 256 ^ n) where
   inc-word c =
       let w : Word = lefts (stepByte 0) n first v f in
       let r : Binary Raised n v 0 f w =
-          binary Raised raised (f .decimal) (λ first top a b g. stepByte 0 first top a g) (raised-byte (f .decimal)) n first v 0 f p (positive n) refl in
+      binary Raised raised (f .decimal) (λ first top a b g. stepByte 0 first top a g) (raised-byte (f .decimal)) n first v 0 f p (positive n) refl in
       sym (wrapped (256 ^ n) (w .word) (v + 1) (w .flags .carry) (r .small) (omega (arith, r .same, ap bit c)))
 
   pub dec-word : f .carry ≡ false → lefts (stepByte 255) n first v f .word ≡ (v + (256 ^ n - 1)) % 256 ^ n
   dec-word c =
       let w : Word = lefts (stepByte 255) n first v f in
       let r : Binary Lowered n v 0 f w =
-          binary Lowered lowered (f .decimal) (λ first top a b g. stepByte 255 first top a g) (lowered-byte (f .decimal)) n first v 0 f p (positive n) refl in
+      binary Lowered lowered (f .decimal) (λ first top a b g. stepByte 255 first top a g) (lowered-byte (f .decimal)) n first v 0 f p (positive n) refl in
       sym (difference (256 ^ n) v 1 (w .word) (w .flags .carry) (r .small) (positive n) (omega (arith, r .same, ap (λ (t : Bool). bit (not t)) c)))
 
 right-byte : (first top : Bool) (b : ℕ) (f : Flags) → b < 256
@@ -166,6 +166,7 @@ module _ (k : Shift) where
     where
       byte : (first top : Bool) → (a b : ℕ) → Flags → Byte
       byte first top a b g = shifted k first top a g
+
       go : (t : Bool) → let r : Word = pick t (rights (shifted k) (suc n) true v f) (lefts (shifted k) (suc n) true v f) in
           r .flags .negative ≡ leb (128 * 256 ^ n) (r .word)
       go true = right-sign n v f p
