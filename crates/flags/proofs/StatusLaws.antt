@@ -86,14 +86,17 @@ pushed-pulled f =
     }
 
 -- ---- in emulation no mask and no byte changes a width flag
+stays : (e t u : Bool) → e ≡ true → pick e t u ≡ t
+stays e t u q = rw q
+
 module _ (f : Flags) (e : f .emulation ≡ true) where
   pub mask-keeps : (mask : ℕ) (set : Bool) → (setMask f mask set .memsel ≡ f .memsel) × (setMask f mask set .indexsel ≡ f .indexsel)
   unfolding setMask
-  mask-keeps mask set = (rw e, rw e)
+  mask-keeps mask set = (stays (f .emulation) (f .memsel) _ e, stays (f .emulation) (f .indexsel) _ e)
 
   pub byte-keeps : (v : ℕ) → (setByte f v .memsel ≡ f .memsel) × (setByte f v .indexsel ≡ f .indexsel)
   unfolding setByte
-  byte-keeps v = (rw e, rw e)
+  byte-keeps v = (stays (f .emulation) (f .memsel) _ e, stays (f .emulation) (f .indexsel) _ e)
 
 -- ---- XCE: twice is never; entering emulation sets both width flags
 pub swapped-back : (f : Flags) → swapCE (swapCE f) ≡ f
