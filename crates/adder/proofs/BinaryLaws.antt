@@ -1,12 +1,12 @@
 -- On bytes binary ADC adds and SBC takes away, with 256 for a carry or less 256 for a borrow; in either mode the result is a byte.
-use Prim.Native.Nat.{ℕ, _+_, _-_, _*_, _/_, _%_, _≤_, _<_}
+use Prim.Native.Nat.{ℕ, _+_, _*_, _%_, _≤_, _<_}
 use mathlib.Core.Path.{_≡_, refl}
 use mathlib.Core.Bool.{Bool, true, false, not}
 use native.Mathlib.Omega.{arith}
 use lib.Dec.{ltb, leb}
 use borrow.Author.Tests.{ltb-true, ltb-false, leb-true, leb-false, le-leb, lt-leb}
 use Rattle.words.specs.Words.{bit}
-use Rattle.adder.specs.Adder.{plain, half, overflow, takeSix, takeSixty, complement, adcBinary, adcDecimal, sbcDecimal, adcOf, sbcOf}
+use Rattle.adder.specs.Adder.{plain, half, takeSix, takeSixty, complement, adcBinary, adcDecimal, sbcDecimal, adcOf, sbcOf}
 use Rattle.adder.specs.declared.Sum.{Sum}
 
 -- a carry is 256, for a sum of two bytes and a carry

@@ -1,7 +1,7 @@
 -- BIT over n bytes: Z of the AND, N and V the value's top bits, and the register as it was; with an operand in the program Z alone.
 use Prim.Native.Nat.{ℕ, zero, suc, _*_, _/_, _%_, _^_, _<_}
-use mathlib.Core.Path.{_≡_, refl, sym, _∙_}
-use mathlib.Core.Bool.{Bool, true, false, _&&_, _||_}
+use mathlib.Core.Path.{_≡_, refl, _∙_}
+use mathlib.Core.Bool.{Bool, false, _&&_, _||_}
 use native.Mathlib.Nat.{pow-succ', div-div-eq-div-mul}
 use native.Mathlib.Omega.{arith}
 use lib.Dec.{eqb, leb}

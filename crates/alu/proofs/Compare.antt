@@ -1,5 +1,5 @@
 -- CMP over n bytes: the flags of a binary difference that starts with no borrow, and the register as it was.
-use Prim.Native.Nat.{ℕ, zero, suc, _+_, _-_, _*_, _/_, _%_, _^_, _≤_, _<_}
+use Prim.Native.Nat.{ℕ, zero, suc, _+_, _-_, _*_, _/_, _%_, _^_, _<_}
 use mathlib.Core.Path.{_≡_, refl, sym, _∙_}
 use mathlib.Core.Bool.{Bool, true, false, not, _||_}
 use native.Mathlib.Omega.{arith}
@@ -10,7 +10,6 @@ use Rattle.flags.specs.Flags.{setNVZC, setID}
 use Rattle.flags.specs.declared.Flags.{Flags}
 use Rattle.alu.specs.Alu.{cmpByte, sbcByte, summed, operated}
 use Rattle.alu.specs.declared.types.Alu.the-variants.{Cmp, Sbc}
-use Rattle.alu.specs.declared.types.Byte.{Byte}
 use Rattle.alu.specs.declared.types.Word.{Word}
 use Rattle.alu.specs.Widths.{chain}
 use Rattle.alu.proofs.CarryLaws.{difference}

@@ -1,5 +1,5 @@
 -- What one byte of each operation says: the width laws stand on these facts and open no operation.
-use Prim.Native.Nat.{ℕ, _+_, _*_, _/_, _%_, _<_}
+use Prim.Native.Nat.{ℕ, _<_}
 use mathlib.Core.Path.{_≡_, refl}
 use mathlib.Core.Bool.{Bool, true, false, _&&_, _||_}
 use native.Mathlib.Omega.{arith}

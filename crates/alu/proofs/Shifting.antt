@@ -1,5 +1,5 @@
 -- Shifts and steps over n bytes: a shift to the left doubles, one to the right halves, INC and DEC step inside 256^n.
-use Prim.Native.Nat.{ℕ, zero, suc, _+_, _-_, _*_, _/_, _%_, _^_, _≤_, _<_}
+use Prim.Native.Nat.{ℕ, zero, suc, _+_, _-_, _*_, _/_, _%_, _^_, _<_}
 use mathlib.Core.Path.{_≡_, refl, ap, sym, _∙_}
 use mathlib.Core.Bool.{Bool, true, false, not, _&&_, _||_, and-assoc, and-comm}
 use native.Mathlib.Nat.{pow-zero, pow-succ', one-le-pow, mul-le-mul-left, one-mul, zero-add, mod-lt, div-lt-iff-lt-mul, div-add-mod}
@@ -17,7 +17,7 @@ use Rattle.alu.specs.declared.types.Word.{Word}
 use Rattle.alu.specs.Widths.{lefts, rights, through}
 use Rattle.alu.proofs.CarryLaws.{Equation, Rule, OfByte, Any, itself, Binary, binary, wrapped, difference}
 use Rattle.alu.proofs.FlagLaws.{leb-same, zero-joined, chain-small, top-bit, top-flag, zero-flag}
-use Rattle.alu.proofs.OneByte.{left-small, right-small, step-small, shifted-small, shown, shifted-plain}
+use Rattle.alu.proofs.OneByte.{left-small, step-small, shifted-small, shown, shifted-plain}
 
 -- the carry comes in at the low end and what the word can't hold goes out
 abbrev pub Doubled : Equation

@@ -1,14 +1,14 @@
 -- Shifts and steps at 8 and at 16 bits are those through one byte and through two; so each law over n bytes is one at either width.
 -- At 8 bits the low byte is the result, and the high byte stays.
-use Prim.Native.Nat.{ℕ, _+_, _-_, _*_, _/_, _%_, _<_}
+use Prim.Native.Nat.{ℕ, _+_, _*_, _/_, _%_, _<_}
 use mathlib.Core.Path.{_≡_, refl, ap, sym, subst, _∙_}
 use mathlib.Core.Bool.{Bool, true, false}
 use native.Mathlib.Nat.{add-zero, zero-add, one-mul, div-one}
 use native.Mathlib.Omega.{arith}
 use lib.Dec.{eqb, leb}
-use Rattle.words.specs.Words.{pick, bit, word, lowSet}
+use Rattle.words.specs.Words.{pick, bit, word}
 use Rattle.flags.specs.declared.Flags.{Flags}
-use Rattle.alu.specs.Alu.{shifted, shiftedAt, bothBytes, oneByte, ending, withCarry, carryIn, fromTop, leftByte, rightByte, stepByte}
+use Rattle.alu.specs.Alu.{shifted, shiftedAt, bothBytes, oneByte, ending, withCarry, carryIn, fromTop}
 use Rattle.alu.specs.declared.types.Shift.{Shift}
 use Rattle.alu.specs.declared.types.Shift.the-variants.{Asl, Rol, Lsr, Ror, Inc, Dec}
 use Rattle.alu.specs.declared.types.Byte.{Byte}

@@ -1,5 +1,5 @@
 -- Each operation over n bytes: ADC and SBC, binary on any bytes and decimal on digits; the logical ones; N, V and Z.
-use Prim.Native.Nat.{ℕ, zero, suc, _+_, _*_, _/_, _%_, _^_, _<_}
+use Prim.Native.Nat.{ℕ, zero, suc, _+_, _*_, _^_, _<_}
 use mathlib.Core.Path.{_≡_, refl, ap, _∙_}
 use mathlib.Core.Bool.{Bool, true, false, not, _&&_, _||_, Bool·beq}
 use native.Mathlib.Omega.{arith}
@@ -8,7 +8,7 @@ use lib.Bits.{bitAnd, bitOr, bitXor, and-block, or-block, xor-block}
 use Rattle.words.specs.Words.{bit}
 use Rattle.flags.specs.declared.Flags.{Flags}
 use Rattle.adder.specs.Adder.{adcOf, sbcOf, adcBinary}
-use Rattle.adder.specs.Digits.{Pair, valueOf, Digits, value}
+use Rattle.adder.specs.Digits.{Pair, valueOf, Digits}
 use Rattle.adder.proofs.BinaryLaws.{adc-adds, sbc-takes, sign-complement}
 use Rattle.adder.proofs.DigitLaws.{adc-digits, sbc-digits}
 use Rattle.alu.specs.Alu.{adcByte, sbcByte, andByte, oraByte, eorByte, loadByte, summed, operated}
@@ -18,7 +18,7 @@ use Rattle.alu.specs.declared.types.Byte.{Byte}
 use Rattle.alu.specs.declared.types.Word.{Word}
 use Rattle.alu.specs.Widths.{chain}
 use Rattle.alu.proofs.CarryLaws.{Equation, Rule, OfByte, OfBytes, carried, Any, itself, Binary, binary}
-use Rattle.alu.proofs.FlagLaws.{topOf, top-bit, chain-small, top-flag, zero-flag, made}
+use Rattle.alu.proofs.FlagLaws.{top-bit, chain-small, top-flag, zero-flag, made}
 use Rattle.alu.proofs.OneByte.{operated-small, operated-plain, writes, tells}
 
 -- a sum: the carry is what the bytes can't hold

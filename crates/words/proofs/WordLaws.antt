@@ -1,11 +1,10 @@
 -- What the definitions of words are for, in plain arithmetic.
 use Prim.Native.Nat.{ℕ, zero, suc, _+_, _-_, _*_, _/_, _%_, _≤_, _<_}
-use mathlib.Core.Path.{_≡_, refl, ap, _∙_}
-use mathlib.Core.Bool.{Bool, true, false}
+use mathlib.Core.Path.{_≡_, refl}
+use mathlib.Core.Bool.{true, false}
 use native.Mathlib.Omega.{arith}
-use lib.Dec.{ltb}
 use borrow.Author.Tests.{lt-ltb, le-ltb, eq-eqb, ne-eqb}
-use Rattle.words.specs.Words.{lowOf, highOf, word, lowSet, swapped, inc, dec, up, down, sum16, signed, displaced, at, sum24, samePage, pageOne, index}
+use Rattle.words.specs.Words.{word, lowSet, swapped, inc, dec, up, down, sum16, signed, displaced, at, sum24, samePage, pageOne, index}
 
 -- ---- halves
 pub word-low : (l h : ℕ) → l < 256 → word l h % 256 ≡ l
