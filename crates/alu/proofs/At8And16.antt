@@ -39,9 +39,9 @@ module _ (a : ℕ) (r : Word) (p : r .word < 256) where
 
 module _ (k : Alu) (a b : ℕ) (f : Flags) where
   -- 16 bits are two bytes
-  pub two-bytes : a < 65536 → b < 65536 → operatedAt k true a b f ≡ chain (operated k) 2 true a b f
+  pub operated-16 : a < 65536 → b < 65536 → operatedAt k true a b f ≡ chain (operated k) 2 true a b f
   unfolding word
-  two-bytes p q =
+  operated-16 p q =
       let l : Byte = operated k true false (a % 256) (b % 256) f in
       let h : Byte = operated k false true (a / 256) (b / 256) (l .flags) in
       let small : l .byte < 256 = operated-small k true false (a % 256) (b % 256) f (omega arith) (omega arith) in
@@ -51,8 +51,8 @@ module _ (k : Alu) (a b : ℕ) (f : Flags) where
       rw (high-a, high-b) (λ i. record { word = same i; flags = h .flags })
 
   -- 8 bits are one, below the register's high byte
-  pub one-byte : operatedAt k false a b f ≡ above a (chain (operated k) 1 true (a % 256) (b % 256) f)
-  one-byte =
+  pub operated-8 : operatedAt k false a b f ≡ above a (chain (operated k) 1 true (a % 256) (b % 256) f)
+  operated-8 =
       let low-a : a % 256 % 256 ≡ a % 256 = omega arith in
       let low-b : b % 256 % 256 ≡ b % 256 = omega arith in
       rw (low-a, low-b, add-zero)
@@ -61,16 +61,16 @@ module _ (k : Alu) (a b : ℕ) (f : Flags) where
   small = chain-small (operated k) (operated-plain k) 1 true (a % 256) (b % 256) f
 
   -- at 8 bits the high byte stays
-  pub high-kept : operatedAt k false a b f .word / 256 ≡ a / 256
-  high-kept = ap (λ (r : Word). r .word / 256) one-byte ∙ high-above a (chain (operated k) 1 true (a % 256) (b % 256) f) small
+  pub operated-high : operatedAt k false a b f .word / 256 ≡ a / 256
+  operated-high = ap (λ (r : Word). r .word / 256) operated-8 ∙ high-above a (chain (operated k) 1 true (a % 256) (b % 256) f) small
 
   -- what holds of the chain holds at the width
   module _ (Says : Word → Type 0) where
     pub at-8 : Says (chain (operated k) 1 true (a % 256) (b % 256) f) → Says (lowPart (operatedAt k false a b f))
-    at-8 = subst Says (sym (ap lowPart one-byte ∙ low-above a (chain (operated k) 1 true (a % 256) (b % 256) f) small))
+    at-8 = subst Says (sym (ap lowPart operated-8 ∙ low-above a (chain (operated k) 1 true (a % 256) (b % 256) f) small))
 
     pub at-16 : a < 65536 → b < 65536 → Says (chain (operated k) 2 true a b f) → Says (operatedAt k true a b f)
-    at-16 p q = subst Says (sym (two-bytes p q))
+    at-16 p q = subst Says (sym (operated-16 p q))
 
 -- ---- sums and differences, binary
 module _ (a b : ℕ) (f : Flags) (m : f .decimal ≡ false) where
@@ -113,13 +113,13 @@ module _ (a b : ℕ) (f : Flags) where
   cmp-16 p q = at-16 Cmp a b f (Compared 1 a b) p q (compared 1 a b f p q)
 
   module _ (k : Alu) (w : T (writes k)) where
-    pub flags-8 : let r : Word = operatedAt k false a b f in (r .flags .zero ≡ eqb (r .word % 256) 0) × (r .flags .negative ≡ leb 128 (r .word % 256))
-    flags-8 =
+    pub result-8 : let r : Word = operatedAt k false a b f in (r .flags .zero ≡ eqb (r .word % 256) 0) × (r .flags .negative ≡ leb 128 (r .word % 256))
+    result-8 =
         at-8 k a b f (λ r. (r .flags .zero ≡ eqb (r .word) 0) × (r .flags .negative ≡ leb 128 (r .word)))
         (result-zero k w 0 true (a % 256) (b % 256) f, result-sign k w 0 true (a % 256) (b % 256) f)
 
-    pub flags-16 : a < 65536 → b < 65536
+    pub result-16 : a < 65536 → b < 65536
         → let r : Word = operatedAt k true a b f in (r .flags .zero ≡ eqb (r .word) 0) × (r .flags .negative ≡ leb 32768 (r .word))
-    flags-16 p q =
+    result-16 p q =
         at-16 k a b f (λ r. (r .flags .zero ≡ eqb (r .word) 0) × (r .flags .negative ≡ leb 32768 (r .word))) p q
         (result-zero k w 1 true a b f, result-sign k w 1 true a b f)

@@ -12,7 +12,7 @@ use Rattle.alu.specs.declared.types.Alu.{Alu}
 use Rattle.alu.specs.declared.types.Alu.the-variants.{And, Bit, BitImmediate}
 use Rattle.alu.specs.declared.types.Word.{Word}
 use Rattle.alu.specs.Widths.{chain}
-use Rattle.alu.proofs.FlagLaws.{topOf, top-bit, top-flag, made}
+use Rattle.alu.proofs.FlagLaws.{topOf, top-flag, sign-flag, made}
 use Rattle.alu.proofs.OneByte.{operated-plain}
 use Rattle.alu.proofs.Widths.{and-word, result-zero}
 
@@ -50,8 +50,7 @@ module _ (n : ℕ) (first : Bool) (a b : ℕ) (f : Flags) (p : a < 256 ^ suc n) 
     kept = made (operated Bit) (λ x y. x) refl (λ h k l m s t. refl) (λ first top a b f. refl) (suc n) first a b f p q;
     zero = bit-zero Bit (λ first top a b f. refl) n first a b f p q;
     negative =
-        top-flag (operated Bit) (operated-plain Bit) (λ g. g .negative) (λ x y z. leb 128 y) (f .decimal) (λ first a b g s t m. refl) n first a b f refl
-        ∙ top-bit n b q;
+        sign-flag (operated Bit) (operated-plain Bit) (λ g. g .negative) (λ x y z. y) (f .decimal) (λ first a b g s t m. refl) n first a b f p q refl;
     overflow =
         rw (← (top-quotient n b q))
         (top-flag (operated Bit) (operated-plain Bit) (λ g. g .overflow) (λ x y z. eqb (y / 64 % 2) 1) (f .decimal) (λ first a b g s t m. refl) n first a b f refl);

@@ -74,11 +74,15 @@ compared n a b f p q =
     let d : Word = chain (operated Sbc) (suc n) true a b g in
     let t = sbc-binary (suc n) true a b g p q refl in
     let e : d .word + b ≡ a + 256 ^ suc n * bit (not (d .flags .carry)) = omega (arith, t .same) in
-    let same : Alike (chain (operated Cmp) (suc n) true a b f .flags) (d .flags) =
-    alike n true a b f g (record { mode = refl; carry = refl; zero = refl }) in
+    let same = alike n true a b f g (record { mode = refl; carry = refl; zero = refl }) in
     record {
       kept = kept (suc n) true a b f p q;
       carry = sym (same .beside .carry) ∙ no-borrow (256 ^ suc n) a b (d .word) (t .small) q (d .flags .carry) e;
-      zero = sym (same .beside .zero) ∙ result-zero Sbc tt n true a b g ∙ no-difference (256 ^ suc n) a b (d .word) (t .small) q (d .flags .carry) e p;
-      negative = rw (difference (256 ^ suc n) a b (d .word) (d .flags .carry) (t .small) (omega arith) e) (sym (same .negative) ∙ result-sign Sbc tt n true a b g);
+      zero =
+          sym (same .beside .zero)
+          ∙ result-zero Sbc tt n true a b g
+          ∙ no-difference (256 ^ suc n) a b (d .word) (t .small) q (d .flags .carry) e p;
+      negative =
+          rw (difference (256 ^ suc n) a b (d .word) (d .flags .carry) (t .small) (omega arith) e)
+          (sym (same .negative) ∙ result-sign Sbc tt n true a b g);
     }

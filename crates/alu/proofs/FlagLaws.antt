@@ -81,6 +81,17 @@ module _ (byte : (first top : Bool) → (a b : ℕ) → Flags → Byte) where
           rw (high-bytes (h .word) (plain .small first (eqb (suc n) 0) (a % 256) (b % 256) f (omega arith) (omega arith)))
           (top-flag n false (a / 256) (b / 256) (l .flags) (plain .mode first (eqb (suc n) 0) (a % 256) (b % 256) f ∙ m))
 
+    -- and so by the words' signs, where it looks at signs alone
+    module _ (flag : Flags → Bool) (rule : (a b w : Bool) → Bool) (d : Bool)
+        (law : (first : Bool) (a b : ℕ) (f : Flags) → a < 256 → b < 256 → f .decimal ≡ d
+        → flag (byte first true a b f .flags) ≡ rule (leb 128 a) (leb 128 b) (leb 128 (byte first true a b f .byte))) where
+      pub sign-flag : (n : ℕ) (first : Bool) (a b : ℕ) (f : Flags) → a < 256 ^ suc n → b < 256 ^ suc n → f .decimal ≡ d
+          → let r : Word = chain byte (suc n) first a b f in
+          flag (r .flags) ≡ rule (leb (128 * 256 ^ n) a) (leb (128 * 256 ^ n) b) (leb (128 * 256 ^ n) (r .word))
+      sign-flag n first a b f p q m =
+          rw (← (top-bit n a p), ← (top-bit n b q), ← (top-bit n _ (chain-small (suc n) first a b f)))
+          (top-flag flag (λ x y z. rule (leb 128 x) (leb 128 y) (leb 128 z)) d law n first a b f m)
+
   -- Z of the bytes is Z of the word
   module _ (law : (first top : Bool) (a b : ℕ) (f : Flags)
       → let r : Byte = byte first top a b f in r .flags .zero ≡ ((first || f .zero) && eqb (r .byte) 0)) where
@@ -89,7 +100,8 @@ module _ (byte : (first top : Bool) → (a b : ℕ) → Flags → Byte) where
     zero-flag zero first a b f = rw (law first true (a % 256) (b % 256) f, add-zero)
     zero-flag (suc n) first a b f =
         let l : Byte = byte first (eqb (suc n) 0) (a % 256) (b % 256) f in
-        zero-flag n false (a / 256) (b / 256) (l .flags) ∙ rw (law first (eqb (suc n) 0) (a % 256) (b % 256) f, and-assoc, zero-joined 256 (l .byte) _ (omega arith))
+        zero-flag n false (a / 256) (b / 256) (l .flags)
+        ∙ rw (law first (eqb (suc n) 0) (a % 256) (b % 256) f, and-assoc, zero-joined 256 (l .byte) _ (omega arith))
 
   -- an operation that makes each byte of two bytes makes the word of two words
   module _ (make : ℕ → ℕ → ℕ) (none : make 0 0 ≡ 0)

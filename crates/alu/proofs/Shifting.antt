@@ -16,7 +16,7 @@ use Rattle.alu.specs.declared.types.Byte.{Byte}
 use Rattle.alu.specs.declared.types.Word.{Word}
 use Rattle.alu.specs.Widths.{lefts, rights, through}
 use Rattle.alu.proofs.CarryLaws.{Equation, Rule, OfByte, Any, itself, Binary, binary, wrapped, difference}
-use Rattle.alu.proofs.FlagLaws.{leb-same, zero-joined, chain-small, top-bit, top-flag, zero-flag}
+use Rattle.alu.proofs.FlagLaws.{leb-same, zero-joined, sign-flag, zero-flag}
 use Rattle.alu.proofs.OneByte.{left-small, step-small, shifted-small, shown, shifted-plain}
 
 -- the carry comes in at the low end and what the word can't hold goes out
@@ -69,25 +69,32 @@ module _ (d first top : Bool) (a b : ℕ) (f : Flags) (p : a < 256) (q : b < 256
 positive : (n : ℕ) → 0 < 256 ^ n
 positive n = one-le-pow n 256 (omega arith)
 
-module _ (n : ℕ) (first : Bool) (v : ℕ) (f : Flags) (p : v < 256 ^ n) where
-  -- ASL and ROL
-  pub left-word : Binary Doubled n v 0 f (lefts leftByte n first v f)
-  left-word = binary Doubled doubled (f .decimal) (λ first top a b g. leftByte first top a g) (left-byte (f .decimal)) n first v 0 f p (positive n) refl
+-- what holds of a byte, whatever D, holds of n bytes from the low end
+module _ (Says : Equation) (rule : Rule 256 Says) (byte : (first top : Bool) → ℕ → Flags → Byte)
+    (law : (d first top : Bool) (a b : ℕ) (f : Flags) → a < 256 → b < 256 → f .decimal ≡ d → OfByte Any 256 itself Says d a b f (byte first top a f)) where
+  from-below : (n : ℕ) (first : Bool) (v : ℕ) (f : Flags) → v < 256 ^ n → Binary Says n v 0 f (lefts byte n first v f)
+  from-below n first v f p =
+      binary Says rule (f .decimal) (λ first top a b g. byte first top a g) (law (f .decimal)) n first v 0 f p (positive n) refl
 
-  -- INC goes in with a carry, and DEC with none
+-- ASL and ROL: the word with 256^n for a carry is twice the value and the carry that goes in
+pub left-word : (n : ℕ) (first : Bool) (v : ℕ) (f : Flags) → v < 256 ^ n → Binary Doubled n v 0 f (lefts leftByte n first v f)
+left-word = from-below Doubled doubled leftByte left-byte
+
+module _ (n : ℕ) (first : Bool) (v : ℕ) (f : Flags) (p : v < 256 ^ n) where
+  -- INC, with the carry that it goes in with
   pub inc-word : f .carry ≡ true → lefts (stepByte 0) n first v f .word ≡ (v + 1) % 256 ^ n
   inc-word c =
       let w : Word = lefts (stepByte 0) n first v f in
-      let r : Binary Raised n v 0 f w =
-      binary Raised raised (f .decimal) (λ first top a b g. stepByte 0 first top a g) (raised-byte (f .decimal)) n first v 0 f p (positive n) refl in
+      let r = from-below Raised raised (stepByte 0) raised-byte n first v f p in
       sym (wrapped (256 ^ n) (w .word) (v + 1) (w .flags .carry) (r .small) (omega (arith, r .same, ap bit c)))
 
+  -- DEC, with the borrow that it goes in with
   pub dec-word : f .carry ≡ false → lefts (stepByte 255) n first v f .word ≡ (v + (256 ^ n - 1)) % 256 ^ n
   dec-word c =
       let w : Word = lefts (stepByte 255) n first v f in
-      let r : Binary Lowered n v 0 f w =
-      binary Lowered lowered (f .decimal) (λ first top a b g. stepByte 255 first top a g) (lowered-byte (f .decimal)) n first v 0 f p (positive n) refl in
-      sym (difference (256 ^ n) v 1 (w .word) (w .flags .carry) (r .small) (positive n) (omega (arith, r .same, ap (λ (t : Bool). bit (not t)) c)))
+      let r = from-below Lowered lowered (stepByte 255) lowered-byte n first v f p in
+      let e : w .word + 1 ≡ v + 256 ^ n * bit (not (w .flags .carry)) = omega (arith, r .same, ap (λ (t : Bool). bit (not t)) c) in
+      sym (difference (256 ^ n) v 1 (w .word) (w .flags .carry) (r .small) (positive n) e)
 
 right-byte : (first top : Bool) (b : ℕ) (f : Flags) → b < 256
     → let r : Byte = rightByte first top b f in 2 * r .byte + bit (r .flags .carry) ≡ b + 256 * bit (f .carry)
@@ -98,7 +105,7 @@ right-byte first top b f p = go (eqb (b % 2) 1) refl
     go true e = omega (arith, eqb-true (b % 2) 1 e)
     go false e = let odd : b % 2 ≡ 1 → ⊥ = eqb-false (b % 2) 1 e in omega arith
 
--- to the right the carry comes in at the top end
+-- LSR and ROR: twice the word and the carry is the value, with 256^n for the carry that goes in
 pub right-word : (n : ℕ) (first : Bool) (v : ℕ) (f : Flags) → v < 256 ^ n
     → let r : Word = rights rightByte n first v f in 2 * r .word + bit (r .flags .carry) ≡ v + 256 ^ n * bit (f .carry)
 right-word zero first v f p = let none : v ≡ 0 = omega (arith, rw pow-zero at p) in rw pow-zero (omega arith)
@@ -134,7 +141,8 @@ module _ (k : Shift) where
       let h : Byte = shifted k first first (v / 256 ^ suc n) f in
       let l : Word = rights (shifted k) (suc n) false (v % 256 ^ suc n) (h .flags) in
       right-zero n false (v % 256 ^ suc n) (h .flags)
-      ∙ rw (shown k first first (v / 256 ^ suc n) f .zero, and-assoc, and-comm (eqb (h .byte) 0) (eqb (l .word) 0), zero-joined (256 ^ suc n) (l .word) (h .byte) (positive (suc n)))
+      ∙ rw (shown k first first (v / 256 ^ suc n) f .zero, and-assoc, and-comm (eqb (h .byte) 0) (eqb (l .word) 0))
+      (ap (λ (t : Bool). (first || f .zero) && t) (zero-joined (256 ^ suc n) (l .word) (h .byte) (positive (suc n))))
 
   right-keeps : (n : ℕ) (v : ℕ) (f : Flags) → rights (shifted k) n false v f .flags .negative ≡ f .negative
   right-keeps zero v f = refl
@@ -171,5 +179,5 @@ module _ (k : Shift) where
           r .flags .negative ≡ leb (128 * 256 ^ n) (r .word)
       go true = right-sign n v f p
       go false =
-          top-flag byte (shifted-plain k) (λ g. g .negative) (λ x y z. leb 128 z) (f .decimal) (λ first a b g s t m. shown k first true a g .sign) n true v 0 f refl
-          ∙ top-bit n _ (chain-small byte (shifted-plain k) (suc n) true v 0 f)
+          sign-flag byte (shifted-plain k) (λ g. g .negative) (λ x y z. z) (f .decimal) (λ first a b g s t m. shown k first true a g .sign)
+          n true v 0 f p (positive (suc n)) refl

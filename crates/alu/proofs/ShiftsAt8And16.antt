@@ -50,37 +50,37 @@ module _ (k : Shift) (v : ℕ) (f : Flags) where
   into = withCarry (carryIn k (f .carry)) f
 
   -- 16 bits are two bytes
-  pub two-bytes : v < 65536 → shiftedAt k true v f ≡ ending k (f .carry) (through k 2 v into)
-  two-bytes p = ap (ending k (f .carry)) (both k v (fromTop k) into p)
+  pub shifted-16 : v < 65536 → shiftedAt k true v f ≡ ending k (f .carry) (through k 2 v into)
+  shifted-16 p = ap (ending k (f .carry)) (both k v (fromTop k) into p)
 
   -- 8 bits are one, below the register's high byte
-  pub one-byte : shiftedAt k false v f ≡ above v (ending k (f .carry) (through k 1 (v % 256) into))
-  one-byte = ap (ending k (f .carry)) (one k v (fromTop k) into)
+  pub shifted-8 : shiftedAt k false v f ≡ above v (ending k (f .carry) (through k 1 (v % 256) into))
+  shifted-8 = ap (ending k (f .carry)) (one k v (fromTop k) into)
 
   -- at 8 bits the high byte stays
-  pub high-kept : shiftedAt k false v f .word / 256 ≡ v / 256
-  high-kept =
-      ap (λ (r : Word). r .word / 256) one-byte ∙ high-above v (ending k (f .carry) (through k 1 (v % 256) into)) (small k v (fromTop k) into)
+  pub shifted-high : shiftedAt k false v f .word / 256 ≡ v / 256
+  shifted-high =
+      ap (λ (r : Word). r .word / 256) shifted-8 ∙ high-above v (ending k (f .carry) (through k 1 (v % 256) into)) (small k v (fromTop k) into)
 
   -- what holds of the bytes holds at the width
   module _ (Says : Word → Type 0) where
-    pub at-8 : Says (ending k (f .carry) (through k 1 (v % 256) into)) → Says (lowPart (shiftedAt k false v f))
-    at-8 =
+    pub shift-at-8 : Says (ending k (f .carry) (through k 1 (v % 256) into)) → Says (lowPart (shiftedAt k false v f))
+    shift-at-8 =
         subst Says
-        (sym (ap lowPart one-byte ∙ low-above v (ending k (f .carry) (through k 1 (v % 256) into)) (small k v (fromTop k) into)))
+        (sym (ap lowPart shifted-8 ∙ low-above v (ending k (f .carry) (through k 1 (v % 256) into)) (small k v (fromTop k) into)))
 
-    pub at-16 : v < 65536 → Says (ending k (f .carry) (through k 2 v into)) → Says (shiftedAt k true v f)
-    at-16 p = subst Says (sym (two-bytes p))
+    pub shift-at-16 : v < 65536 → Says (ending k (f .carry) (through k 2 v into)) → Says (shiftedAt k true v f)
+    shift-at-16 p = subst Says (sym (shifted-16 p))
 
   -- Z and N are those of the result
-  pub flags-8 : let r : Word = shiftedAt k false v f in (r .flags .zero ≡ eqb (r .word % 256) 0) × (r .flags .negative ≡ leb 128 (r .word % 256))
-  flags-8 =
-      at-8 (λ r. (r .flags .zero ≡ eqb (r .word) 0) × (r .flags .negative ≡ leb 128 (r .word)))
+  pub shift-result-8 : let r : Word = shiftedAt k false v f in (r .flags .zero ≡ eqb (r .word % 256) 0) × (r .flags .negative ≡ leb 128 (r .word % 256))
+  shift-result-8 =
+      shift-at-8 (λ r. (r .flags .zero ≡ eqb (r .word) 0) × (r .flags .negative ≡ leb 128 (r .word)))
       (through-zero k 0 (v % 256) into, through-sign k 0 (v % 256) into (omega arith))
 
-  pub flags-16 : v < 65536 → let r : Word = shiftedAt k true v f in (r .flags .zero ≡ eqb (r .word) 0) × (r .flags .negative ≡ leb 32768 (r .word))
-  flags-16 p =
-      at-16 (λ r. (r .flags .zero ≡ eqb (r .word) 0) × (r .flags .negative ≡ leb 32768 (r .word))) p
+  pub shift-result-16 : v < 65536 → let r : Word = shiftedAt k true v f in (r .flags .zero ≡ eqb (r .word) 0) × (r .flags .negative ≡ leb 32768 (r .word))
+  shift-result-16 p =
+      shift-at-16 (λ r. (r .flags .zero ≡ eqb (r .word) 0) × (r .flags .negative ≡ leb 32768 (r .word))) p
       (through-zero k 1 v into, through-sign k 1 v into p)
 
 module _ (v : ℕ) (f : Flags) where
@@ -88,38 +88,38 @@ module _ (v : ℕ) (f : Flags) where
   low = omega arith
 
   pub asl-8 : let r : Word = shiftedAt Asl false v f in r .word % 256 + 256 * bit (r .flags .carry) ≡ 2 * (v % 256)
-  asl-8 = at-8 Asl v f (λ r. r .word + 256 * bit (r .flags .carry) ≡ 2 * (v % 256)) (left-word 1 true (v % 256) (withCarry false f) low .same ∙ add-zero _)
+  asl-8 = shift-at-8 Asl v f (λ r. r .word + 256 * bit (r .flags .carry) ≡ 2 * (v % 256)) (left-word 1 true (v % 256) (withCarry false f) low .same ∙ add-zero _)
 
   pub rol-8 : let r : Word = shiftedAt Rol false v f in r .word % 256 + 256 * bit (r .flags .carry) ≡ 2 * (v % 256) + bit (f .carry)
-  rol-8 = at-8 Rol v f (λ r. r .word + 256 * bit (r .flags .carry) ≡ 2 * (v % 256) + bit (f .carry)) (left-word 1 true (v % 256) f low .same)
+  rol-8 = shift-at-8 Rol v f (λ r. r .word + 256 * bit (r .flags .carry) ≡ 2 * (v % 256) + bit (f .carry)) (left-word 1 true (v % 256) f low .same)
 
   pub lsr-8 : let r : Word = shiftedAt Lsr false v f in 2 * (r .word % 256) + bit (r .flags .carry) ≡ v % 256
-  lsr-8 = at-8 Lsr v f (λ r. 2 * r .word + bit (r .flags .carry) ≡ v % 256) (right-word 1 true (v % 256) (withCarry false f) low ∙ add-zero _)
+  lsr-8 = shift-at-8 Lsr v f (λ r. 2 * r .word + bit (r .flags .carry) ≡ v % 256) (right-word 1 true (v % 256) (withCarry false f) low ∙ add-zero _)
 
   pub ror-8 : let r : Word = shiftedAt Ror false v f in 2 * (r .word % 256) + bit (r .flags .carry) ≡ v % 256 + 256 * bit (f .carry)
-  ror-8 = at-8 Ror v f (λ r. 2 * r .word + bit (r .flags .carry) ≡ v % 256 + 256 * bit (f .carry)) (right-word 1 true (v % 256) f low)
+  ror-8 = shift-at-8 Ror v f (λ r. 2 * r .word + bit (r .flags .carry) ≡ v % 256 + 256 * bit (f .carry)) (right-word 1 true (v % 256) f low)
 
   pub inc-8 : let r : Word = shiftedAt Inc false v f in (r .word % 256 ≡ (v % 256 + 1) % 256) × (r .flags .carry ≡ f .carry)
-  inc-8 = at-8 Inc v f (λ r. (r .word ≡ (v % 256 + 1) % 256) × (r .flags .carry ≡ f .carry)) (inc-word 1 true (v % 256) (withCarry true f) low refl, refl)
+  inc-8 = shift-at-8 Inc v f (λ r. (r .word ≡ (v % 256 + 1) % 256) × (r .flags .carry ≡ f .carry)) (inc-word 1 true (v % 256) (withCarry true f) low refl, refl)
 
   pub dec-8 : let r : Word = shiftedAt Dec false v f in (r .word % 256 ≡ (v % 256 + 255) % 256) × (r .flags .carry ≡ f .carry)
-  dec-8 = at-8 Dec v f (λ r. (r .word ≡ (v % 256 + 255) % 256) × (r .flags .carry ≡ f .carry)) (dec-word 1 true (v % 256) (withCarry false f) low refl, refl)
+  dec-8 = shift-at-8 Dec v f (λ r. (r .word ≡ (v % 256 + 255) % 256) × (r .flags .carry ≡ f .carry)) (dec-word 1 true (v % 256) (withCarry false f) low refl, refl)
 
   module _ (p : v < 65536) where
     pub asl-16 : let r : Word = shiftedAt Asl true v f in r .word + 65536 * bit (r .flags .carry) ≡ 2 * v
-    asl-16 = at-16 Asl v f (λ r. r .word + 65536 * bit (r .flags .carry) ≡ 2 * v) p (left-word 2 true v (withCarry false f) p .same ∙ add-zero _)
+    asl-16 = shift-at-16 Asl v f (λ r. r .word + 65536 * bit (r .flags .carry) ≡ 2 * v) p (left-word 2 true v (withCarry false f) p .same ∙ add-zero _)
 
     pub rol-16 : let r : Word = shiftedAt Rol true v f in r .word + 65536 * bit (r .flags .carry) ≡ 2 * v + bit (f .carry)
-    rol-16 = at-16 Rol v f (λ r. r .word + 65536 * bit (r .flags .carry) ≡ 2 * v + bit (f .carry)) p (left-word 2 true v f p .same)
+    rol-16 = shift-at-16 Rol v f (λ r. r .word + 65536 * bit (r .flags .carry) ≡ 2 * v + bit (f .carry)) p (left-word 2 true v f p .same)
 
     pub lsr-16 : let r : Word = shiftedAt Lsr true v f in 2 * r .word + bit (r .flags .carry) ≡ v
-    lsr-16 = at-16 Lsr v f (λ r. 2 * r .word + bit (r .flags .carry) ≡ v) p (right-word 2 true v (withCarry false f) p ∙ add-zero _)
+    lsr-16 = shift-at-16 Lsr v f (λ r. 2 * r .word + bit (r .flags .carry) ≡ v) p (right-word 2 true v (withCarry false f) p ∙ add-zero _)
 
     pub ror-16 : let r : Word = shiftedAt Ror true v f in 2 * r .word + bit (r .flags .carry) ≡ v + 65536 * bit (f .carry)
-    ror-16 = at-16 Ror v f (λ r. 2 * r .word + bit (r .flags .carry) ≡ v + 65536 * bit (f .carry)) p (right-word 2 true v f p)
+    ror-16 = shift-at-16 Ror v f (λ r. 2 * r .word + bit (r .flags .carry) ≡ v + 65536 * bit (f .carry)) p (right-word 2 true v f p)
 
     pub inc-16 : let r : Word = shiftedAt Inc true v f in (r .word ≡ (v + 1) % 65536) × (r .flags .carry ≡ f .carry)
-    inc-16 = at-16 Inc v f (λ r. (r .word ≡ (v + 1) % 65536) × (r .flags .carry ≡ f .carry)) p (inc-word 2 true v (withCarry true f) p refl, refl)
+    inc-16 = shift-at-16 Inc v f (λ r. (r .word ≡ (v + 1) % 65536) × (r .flags .carry ≡ f .carry)) p (inc-word 2 true v (withCarry true f) p refl, refl)
 
     pub dec-16 : let r : Word = shiftedAt Dec true v f in (r .word ≡ (v + 65535) % 65536) × (r .flags .carry ≡ f .carry)
-    dec-16 = at-16 Dec v f (λ r. (r .word ≡ (v + 65535) % 65536) × (r .flags .carry ≡ f .carry)) p (dec-word 2 true v (withCarry false f) p refl, refl)
+    dec-16 = shift-at-16 Dec v f (λ r. (r .word ≡ (v + 65535) % 65536) × (r .flags .carry ≡ f .carry)) p (dec-word 2 true v (withCarry false f) p refl, refl)

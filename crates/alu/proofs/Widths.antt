@@ -18,7 +18,7 @@ use Rattle.alu.specs.declared.types.Byte.{Byte}
 use Rattle.alu.specs.declared.types.Word.{Word}
 use Rattle.alu.specs.Widths.{chain}
 use Rattle.alu.proofs.CarryLaws.{Equation, Rule, OfByte, OfBytes, carried, Any, itself, Binary, binary}
-use Rattle.alu.proofs.FlagLaws.{top-bit, chain-small, top-flag, zero-flag, made}
+use Rattle.alu.proofs.FlagLaws.{top-bit, chain-small, top-flag, sign-flag, zero-flag, made}
 use Rattle.alu.proofs.OneByte.{operated-small, operated-plain, writes, tells}
 
 -- a sum: the carry is what the bytes can't hold
@@ -115,18 +115,15 @@ module _ (first : Bool) (a b : ℕ) (f : Flags) (p : a < 256) (q : b < 256) (m :
   unfolding sbcByte summed sbcOf adcBinary
   sbc-sign = rw (m, sign-complement b q)
 
-module _ (n : ℕ) (first : Bool) (a b : ℕ) (f : Flags) (p : a < 256 ^ suc n) (q : b < 256 ^ suc n) (m : f .decimal ≡ false) where
-  pub adc-overflow : let r : Word = chain (operated Adc) (suc n) first a b f in
-      r .flags .overflow ≡ signs (leb (128 * 256 ^ n) a) (leb (128 * 256 ^ n) b) (leb (128 * 256 ^ n) (r .word))
-  adc-overflow =
-      rw (← (top-bit n a p), ← (top-bit n b q), ← (top-bit n _ (chain-small (operated Adc) (operated-plain Adc) (suc n) first a b f)))
-      (top-flag (operated Adc) (operated-plain Adc) (λ g. g .overflow) (λ x y z. signs (leb 128 x) (leb 128 y) (leb 128 z)) false adc-sign n first a b f m)
+pub adc-overflow : (n : ℕ) (first : Bool) (a b : ℕ) (f : Flags) → a < 256 ^ suc n → b < 256 ^ suc n → f .decimal ≡ false
+    → let r : Word = chain (operated Adc) (suc n) first a b f in
+    r .flags .overflow ≡ signs (leb (128 * 256 ^ n) a) (leb (128 * 256 ^ n) b) (leb (128 * 256 ^ n) (r .word))
+adc-overflow = sign-flag (operated Adc) (operated-plain Adc) (λ g. g .overflow) signs false adc-sign
 
-  pub sbc-overflow : let r : Word = chain (operated Sbc) (suc n) first a b f in
-      r .flags .overflow ≡ signs (leb (128 * 256 ^ n) a) (not (leb (128 * 256 ^ n) b)) (leb (128 * 256 ^ n) (r .word))
-  sbc-overflow =
-      rw (← (top-bit n a p), ← (top-bit n b q), ← (top-bit n _ (chain-small (operated Sbc) (operated-plain Sbc) (suc n) first a b f)))
-      (top-flag (operated Sbc) (operated-plain Sbc) (λ g. g .overflow) (λ x y z. signs (leb 128 x) (not (leb 128 y)) (leb 128 z)) false sbc-sign n first a b f m)
+pub sbc-overflow : (n : ℕ) (first : Bool) (a b : ℕ) (f : Flags) → a < 256 ^ suc n → b < 256 ^ suc n → f .decimal ≡ false
+    → let r : Word = chain (operated Sbc) (suc n) first a b f in
+    r .flags .overflow ≡ signs (leb (128 * 256 ^ n) a) (not (leb (128 * 256 ^ n) b)) (leb (128 * 256 ^ n) (r .word))
+sbc-overflow = sign-flag (operated Sbc) (operated-plain Sbc) (λ g. g .overflow) (λ x y z. signs x (not y) z) false sbc-sign
 
 -- ---- the logical operations and a load, on words
 module _ (n : ℕ) (first : Bool) (a b : ℕ) (f : Flags) (p : a < 256 ^ n) (q : b < 256 ^ n) where
