@@ -17,16 +17,18 @@ carry-out s h = go (ltb 255 s) refl
     go true e = omega (arith, ltb-true 255 s e)
     go false e = omega (arith, ltb-false 255 s e)
 
--- a bit is 0 or 1, and its complement what is left of 1
+-- a bit and its complement are 1 together
 pub bit-not : (t : Bool) → bit t + bit (not t) ≡ 1
 bit-not true = refl
 bit-not false = refl
 
 module _ (a b : ℕ) (c : Bool) (p : a < 256) (q : b < 256) where
+  -- the byte with 256 for a carry is the sum
   pub adc-adds : let s : Sum = adcOf false a b c in s .byte + 256 * bit (s .carry) ≡ a + b + bit c
   unfolding adcOf adcBinary
   adc-adds = carry-out (plain a b c) (omega (arith, bit-not c))
 
+  -- the byte is the difference, with 256 lent for a borrow
   pub sbc-takes : let s : Sum = sbcOf false a b c in s .byte + b + bit (not c) ≡ a + 256 * bit (not (s .carry))
   unfolding sbcOf adcBinary
   sbc-takes =
@@ -41,6 +43,7 @@ sign-complement b q = go (leb 128 b) refl
     go true e = let h : 128 ≤ b = leb-true 128 b e in lt-leb 128 (complement b) (omega arith)
     go false e = let h : b < 128 = leb-false 128 b e in le-leb 128 (complement b) (omega arith)
 
+-- what is taken from a digit leaves a byte
 take-six-small : (h : Bool) (s : ℕ) → s < 256 → takeSix h s < 256
 take-six-small true s t = t
 take-six-small false s t = omega arith
@@ -49,6 +52,7 @@ take-sixty-small : (h : Bool) (s : ℕ) → s < 256 → takeSixty h s < 256
 take-sixty-small true s t = omega arith
 take-sixty-small false s t = t
 
+-- in either mode the result is a byte, whatever the operands
 pub adc-small : (d : Bool) (a b : ℕ) (c : Bool) → adcOf d a b c .byte < 256
 unfolding adcOf adcDecimal adcBinary
 adc-small true a b c = omega arith

@@ -28,6 +28,7 @@ above a r = record { word = lowSet a (r .word); flags = r .flags }
 abbrev pub lowPart : Word → Word
 lowPart r = record { word = r .word % 256; flags = r .flags }
 
+-- the one is what the other was put below
 module _ (a : ℕ) (r : Word) (p : r .word < 256) where
   pub low-above : lowPart (above a r) ≡ r
   unfolding lowSet
@@ -74,50 +75,62 @@ module _ (k : Alu) (a b : ℕ) (f : Flags) where
 
 -- ---- sums and differences, binary
 module _ (a b : ℕ) (f : Flags) (m : f .decimal ≡ false) where
+  -- ADC: the byte with 256 for a carry is the sum
   pub adc-8 : let r : Word = operatedAt Adc false a b f in r .word % 256 + 256 * bit (r .flags .carry) ≡ a % 256 + b % 256 + bit (f .carry)
   adc-8 = at-8 Adc a b f (Binary Added 1 (a % 256) (b % 256) f) (adc-binary 1 true (a % 256) (b % 256) f (omega arith) (omega arith) m) .same
 
+  -- SBC: the byte is the difference, with 256 lent for a borrow
   pub sbc-8 : let r : Word = operatedAt Sbc false a b f in
       r .word % 256 + b % 256 + bit (not (f .carry)) ≡ a % 256 + 256 * bit (not (r .flags .carry))
   sbc-8 = at-8 Sbc a b f (Binary Taken 1 (a % 256) (b % 256) f) (sbc-binary 1 true (a % 256) (b % 256) f (omega arith) (omega arith) m) .same
 
   module _ (p : a < 65536) (q : b < 65536) where
+    -- ADC: the word with 65,536 for a carry is the sum
     pub adc-16 : let r : Word = operatedAt Adc true a b f in r .word + 65536 * bit (r .flags .carry) ≡ a + b + bit (f .carry)
     adc-16 = at-16 Adc a b f (Binary Added 2 a b f) p q (adc-binary 2 true a b f p q m) .same
 
+    -- SBC: the word is the difference, with 65,536 lent for a borrow
     pub sbc-16 : let r : Word = operatedAt Sbc true a b f in r .word + b + bit (not (f .carry)) ≡ a + 65536 * bit (not (r .flags .carry))
     sbc-16 = at-16 Sbc a b f (Binary Taken 2 a b f) p q (sbc-binary 2 true a b f p q m) .same
 
--- ---- and decimal
+-- ---- and decimal: digits in, digits out, with 100 or 10,000 for a carry or a borrow
 module _ (a b : ℕ) (f : Flags) (m : f .decimal ≡ true) where
   module _ (p : Digits 1 (a % 256)) (q : Digits 1 (b % 256)) where
+    -- ADC
     pub adc-decimal-8 : Decimal Added 1 (a % 256) (b % 256) f (lowPart (operatedAt Adc false a b f))
     adc-decimal-8 = at-8 Adc a b f (Decimal Added 1 (a % 256) (b % 256) f) (adc-decimal 1 true (a % 256) (b % 256) f p q m)
 
+    -- SBC
     pub sbc-decimal-8 : Decimal Taken 1 (a % 256) (b % 256) f (lowPart (operatedAt Sbc false a b f))
     sbc-decimal-8 = at-8 Sbc a b f (Decimal Taken 1 (a % 256) (b % 256) f) (sbc-decimal 1 true (a % 256) (b % 256) f p q m)
 
   module _ (p : Digits 2 a) (q : Digits 2 b) where
+    -- ADC
     pub adc-decimal-16 : Decimal Added 2 a b f (operatedAt Adc true a b f)
     adc-decimal-16 = at-16 Adc a b f (Decimal Added 2 a b f) (below Pair 2 a p) (below Pair 2 b q) (adc-decimal 2 true a b f p q m)
 
+    -- SBC
     pub sbc-decimal-16 : Decimal Taken 2 a b f (operatedAt Sbc true a b f)
     sbc-decimal-16 = at-16 Sbc a b f (Decimal Taken 2 a b f) (below Pair 2 a p) (below Pair 2 b q) (sbc-decimal 2 true a b f p q m)
 
 -- ---- compares, and Z and N of what is written
 module _ (a b : ℕ) (f : Flags) where
+  -- CMP compares the low bytes
   pub cmp-8 : Compared 0 (a % 256) (b % 256) (lowPart (operatedAt Cmp false a b f))
   cmp-8 = at-8 Cmp a b f (Compared 0 (a % 256) (b % 256)) (compared 0 (a % 256) (b % 256) f (omega arith) (omega arith))
 
+  -- CMP compares the words
   pub cmp-16 : a < 65536 → b < 65536 → Compared 1 a b (operatedAt Cmp true a b f)
   cmp-16 p q = at-16 Cmp a b f (Compared 1 a b) p q (compared 1 a b f p q)
 
   module _ (k : Alu) (w : T (writes k)) where
+    -- Z and N are the low byte's
     pub result-8 : let r : Word = operatedAt k false a b f in (r .flags .zero ≡ eqb (r .word % 256) 0) × (r .flags .negative ≡ leb 128 (r .word % 256))
     result-8 =
         at-8 k a b f (λ r. (r .flags .zero ≡ eqb (r .word) 0) × (r .flags .negative ≡ leb 128 (r .word)))
         (result-zero k w 0 true (a % 256) (b % 256) f, result-sign k w 0 true (a % 256) (b % 256) f)
 
+    -- Z and N are the word's
     pub result-16 : a < 65536 → b < 65536
         → let r : Word = operatedAt k true a b f in (r .flags .zero ≡ eqb (r .word) 0) × (r .flags .negative ≡ leb 32768 (r .word))
     result-16 p q =

@@ -36,6 +36,7 @@ module _ (k : Alu) (law : (first top : Bool) (a b : ℕ) (f : Flags) → operate
       → chain (operated k) (suc n) first a b f .flags .zero ≡ ((first || f .zero) && eqb (bitAnd a b) 0)
   bit-zero n first a b f p q = as-and (suc n) first a b f f refl ∙ result-zero And tt n first a b f ∙ rw (and-word (suc n) first a b f p q)
 
+-- of a value that is tested
 pub record Tested (n : ℕ) (first : Bool) (a b : ℕ) (f : Flags) (r : Word) : Type 0 where
   pub kept : r .word ≡ a
   pub zero : r .flags .zero ≡ ((first || f .zero) && eqb (bitAnd a b) 0)
@@ -43,7 +44,7 @@ pub record Tested (n : ℕ) (first : Bool) (a b : ℕ) (f : Flags) (r : Word) : 
   pub overflow : r .flags .overflow ≡ eqb (b / 256 ^ n / 64 % 2) 1
 
 module _ (n : ℕ) (first : Bool) (a b : ℕ) (f : Flags) (p : a < 256 ^ suc n) (q : b < 256 ^ suc n) where
-  -- BIT
+  -- BIT: the register stays, Z is of the AND, N and V are the value's two top bits
   pub tested : Tested n first a b f (chain (operated Bit) (suc n) first a b f)
   unfolding bitByte
   tested = record {
@@ -56,7 +57,7 @@ module _ (n : ℕ) (first : Bool) (a b : ℕ) (f : Flags) (p : a < 256 ^ suc n) 
         (top-flag (operated Bit) (operated-plain Bit) (λ g. g .overflow) (λ x y z. eqb (y / 64 % 2) 1) (f .decimal) (λ first a b g s t m. refl) n first a b f refl);
   }
 
--- BIT with its operand in the program changes Z alone
+-- of a value that is tested for Z alone
 pub record OnlyZero (first : Bool) (a b : ℕ) (f : Flags) (r : Word) : Type 0 where
   pub kept : r .word ≡ a
   pub zero : r .flags .zero ≡ ((first || f .zero) && eqb (bitAnd a b) 0)
@@ -70,6 +71,7 @@ same-signs zero first a b f = (refl, refl)
 same-signs (suc n) first a b f =
     same-signs n false (a / 256) (b / 256) (operated BitImmediate first (eqb n 0) (a % 256) (b % 256) f .flags)
 
+-- BIT with its operand in the program changes Z alone
 pub only-zero : (n : ℕ) (first : Bool) (a b : ℕ) (f : Flags) → a < 256 ^ suc n → b < 256 ^ suc n
     → OnlyZero first a b f (chain (operated BitImmediate) (suc n) first a b f)
 unfolding bitByte

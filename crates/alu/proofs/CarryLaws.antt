@@ -53,6 +53,7 @@ module _ (Such : ℕ → Type 0) (base : ℕ) (of : ℕ → ℕ) (Says : Equatio
 
     module _ (d : Bool) (byte : (first top : Bool) → (a b : ℕ) → Flags → Byte)
         (law : (first top : Bool) (a b : ℕ) (f : Flags) → Such a → Such b → f .decimal ≡ d → OfByte d a b f (byte first top a b f)) where
+      -- what holds of each byte holds of n bytes
       pub carried : (n : ℕ) (first : Bool) (a b : ℕ) (f : Flags) → Bytes Such n a → Bytes Such n b → f .decimal ≡ d
           → OfBytes n a b f (chain byte n first a b f)
       carried zero first a b f p q m = record { bytes = refl; same = rw pow-zero (rule .none (f .carry)) }
@@ -73,25 +74,29 @@ Any b = b < 256
 abbrev pub itself : ℕ → ℕ
 itself b = b
 
+-- a number below 256^n is n bytes and nothing above, and the other way round
 pub bytes-of : (n a : ℕ) → a < 256 ^ n → Bytes Any n a
 bytes-of zero a p = let q : a < 1 = rw pow-zero at p in omega arith
 bytes-of (suc n) a p = let q : a < 256 * 256 ^ n = rw pow-succ' at p in (omega arith, bytes-of n (a / 256) (omega arith))
-
-whole : (n a : ℕ) → Bytes Any n a → worth 256 itself n a ≡ a
-whole zero a p = omega arith
-whole (suc n) a p = omega (arith, whole n (a / 256) (p .1))
 
 pub below : (Such : ℕ → Type 0) (n a : ℕ) → Bytes Such n a → a < 256 ^ n
 below Such zero a p = rw pow-zero (omega arith)
 below Such (suc n) a p = let q : a / 256 < 256 ^ n = below Such n (a / 256) (p .1) in rw pow-succ' (omega arith)
 
+-- n bytes that are worth themselves are worth the number
+whole : (n a : ℕ) → Bytes Any n a → worth 256 itself n a ≡ a
+whole zero a p = omega arith
+whole (suc n) a p = omega (arith, whole n (a / 256) (p .1))
+
 module _ (Says : Equation) where
+  -- a word below 256^n, with an equation between numbers
   pub record Binary (n a b : ℕ) (f : Flags) (r : Word) : Type 0 where
     pub small : r .word < 256 ^ n
     pub same : Says (256 ^ n) a b (r .word) (f .carry) (r .flags .carry)
 
   module _ (rule : Rule 256 Says) (d : Bool) (byte : (first top : Bool) → (a b : ℕ) → Flags → Byte)
       (law : (first top : Bool) (a b : ℕ) (f : Flags) → Any a → Any b → f .decimal ≡ d → OfByte Any 256 itself Says d a b f (byte first top a b f)) where
+    -- what holds of each byte holds of binary numbers
     pub binary : (n : ℕ) (first : Bool) (a b : ℕ) (f : Flags) → a < 256 ^ n → b < 256 ^ n → f .decimal ≡ d
         → Binary n a b f (chain byte n first a b f)
     binary n first a b f p q m =

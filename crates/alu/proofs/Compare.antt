@@ -22,6 +22,7 @@ pub record Beside (first : Bool) (f g : Flags) : Type 0 where
   pub carry : g .carry ≡ (first || f .carry)
   pub zero : g .zero ≡ f .zero
 
+-- the same after the top byte, which has set N
 pub record Alike (f g : Flags) : Type 0 where
   pub beside : Beside false f g
   pub negative : g .negative ≡ f .negative
@@ -61,6 +62,7 @@ module _ (m a b w : ℕ) (small : w < m) (fits : b < m) where
   no-difference true e p = eqb-same w 0 a b (omega arith)
   no-difference false e p = eqb-same w 0 a b (omega arith)
 
+-- of two words that are compared
 pub record Compared (n a b : ℕ) (r : Word) : Type 0 where
   pub kept : r .word ≡ a
   pub carry : r .flags .carry ≡ leb b a

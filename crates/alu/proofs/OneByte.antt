@@ -28,6 +28,7 @@ operated-small Bit first top a b f p q = p
 operated-small BitImmediate first top a b f p q = p
 operated-small Load first top a b f p q = q
 
+-- and so is a shift's, and a step's whatever it steps by
 pub left-small : (first top : Bool) (b : ℕ) (f : Flags) → b < 256 → leftByte first top b f .byte < 256
 unfolding leftByte
 left-small first top b f p = omega (arith, bit-not (f .carry))

@@ -19,6 +19,7 @@ use Rattle.alu.proofs.FlagLaws.{chain-small}
 use Rattle.alu.proofs.OneByte.{shifted-small, shifted-plain}
 use Rattle.alu.proofs.Shifting.{left-word, right-word, inc-word, dec-word, right-below, through-zero, through-sign}
 
+-- both bytes and one byte, from the end at which the carry goes in
 module _ (k : Shift) (v : ℕ) where
   both : (t : Bool) (g : Flags) → v < 65536 → bothBytes k t v g ≡ pick t (rights (shifted k) 2 true v g) (lefts (shifted k) 2 true v g)
   unfolding word
@@ -45,7 +46,7 @@ module _ (k : Shift) (v : ℕ) where
   small false g = chain-small (λ first top a b f. shifted k first top a f) (shifted-plain k) 1 true (v % 256) 0 g
 
 module _ (k : Shift) (v : ℕ) (f : Flags) where
-  -- the carry that goes in, and what comes out of n bytes
+  -- the flags with the carry that goes in
   abbrev into : Flags
   into = withCarry (carryIn k (f .carry)) f
 
@@ -87,39 +88,51 @@ module _ (v : ℕ) (f : Flags) where
   low : v % 256 < 256
   low = omega arith
 
+  -- ASL: twice the value, a bit that goes out is C
   pub asl-8 : let r : Word = shiftedAt Asl false v f in r .word % 256 + 256 * bit (r .flags .carry) ≡ 2 * (v % 256)
   asl-8 = shift-at-8 Asl v f (λ r. r .word + 256 * bit (r .flags .carry) ≡ 2 * (v % 256)) (left-word 1 true (v % 256) (withCarry false f) low .same ∙ add-zero _)
 
+  -- ROL: and C goes in below
   pub rol-8 : let r : Word = shiftedAt Rol false v f in r .word % 256 + 256 * bit (r .flags .carry) ≡ 2 * (v % 256) + bit (f .carry)
   rol-8 = shift-at-8 Rol v f (λ r. r .word + 256 * bit (r .flags .carry) ≡ 2 * (v % 256) + bit (f .carry)) (left-word 1 true (v % 256) f low .same)
 
+  -- LSR: half the value, the bit that goes out is C
   pub lsr-8 : let r : Word = shiftedAt Lsr false v f in 2 * (r .word % 256) + bit (r .flags .carry) ≡ v % 256
   lsr-8 = shift-at-8 Lsr v f (λ r. 2 * r .word + bit (r .flags .carry) ≡ v % 256) (right-word 1 true (v % 256) (withCarry false f) low ∙ add-zero _)
 
+  -- ROR: and C goes in at the top
   pub ror-8 : let r : Word = shiftedAt Ror false v f in 2 * (r .word % 256) + bit (r .flags .carry) ≡ v % 256 + 256 * bit (f .carry)
   ror-8 = shift-at-8 Ror v f (λ r. 2 * r .word + bit (r .flags .carry) ≡ v % 256 + 256 * bit (f .carry)) (right-word 1 true (v % 256) f low)
 
+  -- INC: one more, and C stays
   pub inc-8 : let r : Word = shiftedAt Inc false v f in (r .word % 256 ≡ (v % 256 + 1) % 256) × (r .flags .carry ≡ f .carry)
   inc-8 = shift-at-8 Inc v f (λ r. (r .word ≡ (v % 256 + 1) % 256) × (r .flags .carry ≡ f .carry)) (inc-word 1 true (v % 256) (withCarry true f) low refl, refl)
 
+  -- DEC: one less, and C stays
   pub dec-8 : let r : Word = shiftedAt Dec false v f in (r .word % 256 ≡ (v % 256 + 255) % 256) × (r .flags .carry ≡ f .carry)
   dec-8 = shift-at-8 Dec v f (λ r. (r .word ≡ (v % 256 + 255) % 256) × (r .flags .carry ≡ f .carry)) (dec-word 1 true (v % 256) (withCarry false f) low refl, refl)
 
   module _ (p : v < 65536) where
+    -- ASL: twice the value, a bit that goes out is C
     pub asl-16 : let r : Word = shiftedAt Asl true v f in r .word + 65536 * bit (r .flags .carry) ≡ 2 * v
     asl-16 = shift-at-16 Asl v f (λ r. r .word + 65536 * bit (r .flags .carry) ≡ 2 * v) p (left-word 2 true v (withCarry false f) p .same ∙ add-zero _)
 
+    -- ROL: and C goes in below
     pub rol-16 : let r : Word = shiftedAt Rol true v f in r .word + 65536 * bit (r .flags .carry) ≡ 2 * v + bit (f .carry)
     rol-16 = shift-at-16 Rol v f (λ r. r .word + 65536 * bit (r .flags .carry) ≡ 2 * v + bit (f .carry)) p (left-word 2 true v f p .same)
 
+    -- LSR: half the value, the bit that goes out is C
     pub lsr-16 : let r : Word = shiftedAt Lsr true v f in 2 * r .word + bit (r .flags .carry) ≡ v
     lsr-16 = shift-at-16 Lsr v f (λ r. 2 * r .word + bit (r .flags .carry) ≡ v) p (right-word 2 true v (withCarry false f) p ∙ add-zero _)
 
+    -- ROR: and C goes in at the top
     pub ror-16 : let r : Word = shiftedAt Ror true v f in 2 * r .word + bit (r .flags .carry) ≡ v + 65536 * bit (f .carry)
     ror-16 = shift-at-16 Ror v f (λ r. 2 * r .word + bit (r .flags .carry) ≡ v + 65536 * bit (f .carry)) p (right-word 2 true v f p)
 
+    -- INC: one more, and C stays
     pub inc-16 : let r : Word = shiftedAt Inc true v f in (r .word ≡ (v + 1) % 65536) × (r .flags .carry ≡ f .carry)
     inc-16 = shift-at-16 Inc v f (λ r. (r .word ≡ (v + 1) % 65536) × (r .flags .carry ≡ f .carry)) p (inc-word 2 true v (withCarry true f) p refl, refl)
 
+    -- DEC: one less, and C stays
     pub dec-16 : let r : Word = shiftedAt Dec true v f in (r .word ≡ (v + 65535) % 65536) × (r .flags .carry ≡ f .carry)
     dec-16 = shift-at-16 Dec v f (λ r. (r .word ≡ (v + 65535) % 65536) × (r .flags .carry ≡ f .carry)) p (dec-word 2 true v (withCarry false f) p refl, refl)

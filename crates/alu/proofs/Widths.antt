@@ -89,7 +89,7 @@ sbc-decimal = carried Pair 100 valueOf Taken pair-fits (taken 100) true (operate
 
 -- ---- Z and N of what is written
 
--- Z: so far, and the word is 0
+-- Z: it was set so far, where there was a byte before, and the word is 0
 pub result-zero : (k : Alu) → T (writes k) → (n : ℕ) (first : Bool) (a b : ℕ) (f : Flags)
     → let r : Word = chain (operated k) (suc n) first a b f in r .flags .zero ≡ ((first || f .zero) && eqb (r .word) 0)
 result-zero k w = zero-flag (operated k) (tells k w .zero)
@@ -115,11 +115,13 @@ module _ (first : Bool) (a b : ℕ) (f : Flags) (p : a < 256) (q : b < 256) (m :
   unfolding sbcByte summed sbcOf adcBinary
   sbc-sign = rw (m, sign-complement b q)
 
+-- ADC
 pub adc-overflow : (n : ℕ) (first : Bool) (a b : ℕ) (f : Flags) → a < 256 ^ suc n → b < 256 ^ suc n → f .decimal ≡ false
     → let r : Word = chain (operated Adc) (suc n) first a b f in
     r .flags .overflow ≡ signs (leb (128 * 256 ^ n) a) (leb (128 * 256 ^ n) b) (leb (128 * 256 ^ n) (r .word))
 adc-overflow = sign-flag (operated Adc) (operated-plain Adc) (λ g. g .overflow) signs false adc-sign
 
+-- SBC
 pub sbc-overflow : (n : ℕ) (first : Bool) (a b : ℕ) (f : Flags) → a < 256 ^ suc n → b < 256 ^ suc n → f .decimal ≡ false
     → let r : Word = chain (operated Sbc) (suc n) first a b f in
     r .flags .overflow ≡ signs (leb (128 * 256 ^ n) a) (not (leb (128 * 256 ^ n) b)) (leb (128 * 256 ^ n) (r .word))
@@ -127,18 +129,22 @@ sbc-overflow = sign-flag (operated Sbc) (operated-plain Sbc) (λ g. g .overflow)
 
 -- ---- the logical operations and a load, on words
 module _ (n : ℕ) (first : Bool) (a b : ℕ) (f : Flags) (p : a < 256 ^ n) (q : b < 256 ^ n) where
+  -- AND
   pub and-word : chain (operated And) n first a b f .word ≡ bitAnd a b
   unfolding andByte
   and-word = made (operated And) bitAnd refl (and-block 8) (λ first top a b f. refl) n first a b f p q
 
+  -- ORA
   pub ora-word : chain (operated Ora) n first a b f .word ≡ bitOr a b
   unfolding oraByte
   ora-word = made (operated Ora) bitOr refl (or-block 8) (λ first top a b f. refl) n first a b f p q
 
+  -- EOR
   pub eor-word : chain (operated Eor) n first a b f .word ≡ bitXor a b
   unfolding eorByte
   eor-word = made (operated Eor) bitXor refl (xor-block 8) (λ first top a b f. refl) n first a b f p q
 
+  -- a load takes the value as it is
   pub load-word : chain (operated Load) n first a b f .word ≡ b
   unfolding loadByte
   load-word = made (operated Load) (λ x y. y) refl (λ h k l m s t. refl) (λ first top a b f. refl) n first a b f p q
