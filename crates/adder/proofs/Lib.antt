@@ -1,3 +1,4 @@
+pub mod BinaryLaws
 pub mod Computed
 pub mod DigitLaws
 pub mod Figures

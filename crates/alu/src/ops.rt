@@ -62,7 +62,7 @@ fn cmp(first: bool, top: bool, a: u8, b: u8, f: Flags) -> Byte
     let n = choose(top, s.byte >= 128, f.negative);
     let z = zero_after(first, f.zero, s.byte == 0);
     Byte {
-        byte: a,
+        byte: a, // the register stays
         flags: f.set_nvzc(n, f.overflow, z, s.carry),
     }
 }

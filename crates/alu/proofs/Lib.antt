@@ -1,0 +1,9 @@
+pub mod At8And16
+pub mod BitTest
+pub mod CarryLaws
+pub mod Compare
+pub mod FlagLaws
+pub mod OneByte
+pub mod Shifting
+pub mod ShiftsAt8And16
+pub mod Widths
