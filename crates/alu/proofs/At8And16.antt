@@ -32,7 +32,7 @@ lowPart r = record { word = r .word % 256; flags = r .flags }
 module _ (a : ℕ) (r : Word) (p : r .word < 256) where
   pub low-above : lowPart (above a r) ≡ r
   unfolding lowSet
-  low-above = let same : (a / 256 * 256 + r .word) % 256 ≡ r .word = omega arith in λ i. record { word = same i; flags = r .flags }
+  low-above = let same : (a / 256 * 256 + r .word % 256) % 256 ≡ r .word = omega arith in λ i. record { word = same i; flags = r .flags }
 
   pub high-above : above a r .word / 256 ≡ a / 256
   unfolding lowSet
