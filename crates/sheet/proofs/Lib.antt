@@ -1,3 +1,4 @@
 pub mod Walk
 pub mod Shapes
 pub mod Demand2
+pub mod Kept
