@@ -2,3 +2,4 @@ pub mod Walk
 pub mod Shapes
 pub mod Demand2
 pub mod Kept
+pub mod Counts
