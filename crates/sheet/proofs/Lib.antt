@@ -3,3 +3,4 @@ pub mod Shapes
 pub mod Demand2
 pub mod Kept
 pub mod Counts
+pub mod Refusals
