@@ -2,7 +2,7 @@
 -- A record is made in two ways only, under way and ended.
 use Prim.Native.Nat.{ℕ, zero, suc, _+_, _/_, _%_}
 use native.Mathlib.Omega.{arith}
-use mathlib.Core.Path.{_≡_, refl, subst, _∙_}
+use mathlib.Core.Path.{_≡_, refl, subst}
 use mathlib.Core.Bool.{Bool, true, false, not, _&&_, _||_}
 use mathlib.Core.List.{List, [], _∷_}
 use lib.Dec.{eqb}
@@ -10,7 +10,7 @@ use lib.ListN.{getD}
 use borrow.Author.Tests.{eq-eqb}
 use Rattle.words.specs.Words.{pick, implied, samePage, pageOne}
 use Rattle.flags.specs.declared.Flags.{Flags}
-use Rattle.cpu.specs.Record.{boundary, narrowed, wellFormed, midOf, regsOf, underWay, ended, holds}
+use Rattle.cpu.specs.Record.{boundary, narrowed, wellFormed, midOf, regsOf, ended, holds}
 use Rattle.cpu.specs.declared.types.Record.{Record}
 use Rattle.cpu.specs.declared.types.Regs.{Regs}
 use Rattle.cpu.specs.declared.types.Mid.{Mid}

@@ -4,3 +4,4 @@ pub mod Demand2
 pub mod Kept
 pub mod Counts
 pub mod Refusals
+pub mod WholeMove
