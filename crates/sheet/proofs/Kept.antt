@@ -1,0 +1,247 @@
+-- Well-formedness is kept: from any well-formed record an accepted cycle gives a well-formed record.
+-- A record is made in two ways only, under way and ended.
+use Prim.Native.Nat.{ℕ, zero, suc, _+_, _/_, _%_}
+use native.Mathlib.Omega.{arith}
+use mathlib.Core.Path.{_≡_, refl, subst}
+use mathlib.Core.Bool.{Bool, true, false, not, _&&_, _||_}
+use mathlib.Core.List.{List, [], _∷_}
+use lib.Dec.{eqb}
+use lib.ListN.{getD}
+use borrow.Author.Tests.{eq-eqb}
+use Rattle.words.specs.Words.{pick, implied, samePage, pageOne}
+use Rattle.flags.specs.declared.Flags.{Flags}
+use Rattle.cpu.specs.Record.{boundary, narrowed, wellFormed, midOf, regsOf, ended, holds}
+use Rattle.cpu.specs.declared.types.Record.{Record}
+use Rattle.cpu.specs.declared.types.Regs.{Regs}
+use Rattle.cpu.specs.declared.types.Mid.{Mid}
+use Rattle.cpu.specs.declared.types.Refusal.the-variants.{Malformed}
+use Rattle.cpu.specs.declared.types.Answer.{Answer}
+use Rattle.cpu.specs.declared.types.Answer.the-variants.{Next, Refused}
+use Rattle.opcodes.specs.Opcodes.{decodeOf, condIn, flagIn, wideOf}
+use Rattle.opcodes.specs.declared.types.Op.{Op}
+use Rattle.opcodes.specs.declared.types.Op.the-variants as op
+use Rattle.opcodes.specs.declared.types.Operation.{Operation}
+use Rattle.opcodes.specs.declared.types.Operation.the-variants.{Plain}
+use Rattle.opcodes.specs.declared.types.Shape.{Shape}
+use Rattle.opcodes.specs.declared.types.Shape.the-variants as shape
+use Rattle.cycles.specs.Cycles.{wdm, cyclesOf, phaseOf, unaligned, carrying, heldMicro}
+use Rattle.cycles.specs.declared.types.Change.{Change}
+use Rattle.cycles.specs.declared.types.Change.the-variants.{Keep, OperateOnly, OperateLow, OperateHigh, PullOnly, PullLow, PullHigh, Apply, Mask, Status, Sign, DirectLow, DirectHigh, MoveByte}
+use Rattle.cycles.specs.declared.types.To.{To}
+use Rattle.cycles.specs.declared.types.To.the-variants as to
+use Rattle.cycles.specs.declared.types.Cycle.{Cycle}
+use Rattle.cycles.specs.declared.types.Cycle.the-variants.{Absent, Present}
+use Rattle.cycles.specs.declared.types.Micro.{Micro}
+use Rattle.cycles.specs.declared.types.Micro.the-variants.{Refuse, Fetch, Held}
+use Rattle.act.specs.Act.{past, target, lastByte, midAfter, regsAfter, unless, movedOn, wayOf, arrived}
+use Rattle.act.specs.declared.types.Way.{Way}
+use Rattle.act.specs.declared.types.Way.the-variants.{On, End, Again}
+use Rattle.step.specs.Cycle.{microOf, begun, answeredBy, answerOf}
+use Rattle.sheet.proofs.Walk.{well-under-way, and-left, and-right, both-true, false-true, steady, steady-fits}
+use Rattle.sheet.proofs.Shapes.{masks-narrow, index-small}
+
+-- ---- what an end makes so
+widths-set : (e m x : Bool) → implied e ((e || m) && (e || x)) ≡ true
+widths-set true m x = refl
+widths-set false m x = refl
+
+implied-by : (a c : Bool) → c ≡ true → implied a c ≡ true
+implied-by true c h = h
+implied-by false c h = refl
+
+stack-home : (e : Bool) (s : ℕ) → implied e (eqb (pageOne e s / 256) 1) ≡ true
+unfolding pageOne
+stack-home true s = eq-eqb ((256 + s % 256) / 256) 1 (omega arith)
+stack-home false s = refl
+
+pub well-ended : (ir : ℕ) (again : Bool) (pbr pc s dbr : ℕ) (g : Regs) → wellFormed (ended ir again pbr pc s dbr g) ≡ true
+unfolding wellFormed ended
+well-ended ir again pbr pc s dbr g =
+    both-true _ _
+    (both-true _ _ (widths-set (g .flags .emulation) (g .flags .memsel) (g .flags .indexsel)) (index-small (g .flags .emulation || g .flags .indexsel) (g .x) (g .y)))
+    (implied-by (boundary again (pick again ir 0) 0) _ (stack-home (g .flags .emulation) s))
+
+-- ---- what goes on: the changes that a cycle before the last makes keep the index registers and width flags in order
+abbrev calm : Change → Bool
+calm Keep = true
+calm OperateLow = true
+calm PullLow = true
+calm Mask = true
+calm DirectLow = true
+calm OperateOnly = false
+calm OperateHigh = false
+calm PullOnly = false
+calm PullHigh = false
+calm Apply = false
+calm Status = false
+calm Sign = false
+calm DirectHigh = false
+calm MoveByte = false
+
+-- the registers after a cycle, narrow where their index flag says so
+abbrev NarrowAfter : Change → Operation → Record → ℕ → Type 0
+NarrowAfter c o r b = let g : Regs = regsAfter c o r b in narrowed (g .flags) (g .x) (g .y) ≡ true
+
+steady-narrow : (c : Change) (o : Operation) (r : Record) (b : ℕ) → steady c ≡ true → narrowed (r .flags) (r .x) (r .y) ≡ true → NarrowAfter c o r b
+steady-narrow c o r b e h = steady-fits shape.Wdm Plain wdm c o r b e (record { narrow = h; list = refl }) .narrow
+
+calm-narrow : (c : Change) (o : Operation) (r : Record) (b : ℕ) → calm c ≡ true → narrowed (r .flags) (r .x) (r .y) ≡ true → NarrowAfter c o r b
+calm-narrow Keep o r b e h = h
+calm-narrow OperateLow o r b e h = steady-narrow OperateLow o r b refl h
+calm-narrow PullLow o r b e h = steady-narrow PullLow o r b refl h
+calm-narrow Mask o r b e h = masks-narrow (flagIn o) b (regsOf r) h
+calm-narrow DirectLow o r b e h = h
+calm-narrow OperateOnly o r b e h = absurd (false-true e)
+calm-narrow OperateHigh o r b e h = absurd (false-true e)
+calm-narrow PullOnly o r b e h = absurd (false-true e)
+calm-narrow PullHigh o r b e h = absurd (false-true e)
+calm-narrow Apply o r b e h = absurd (false-true e)
+calm-narrow Status o r b e h = absurd (false-true e)
+calm-narrow Sign o r b e h = absurd (false-true e)
+calm-narrow DirectHigh o r b e h = absurd (false-true e)
+calm-narrow MoveByte o r b e h = absurd (false-true e)
+
+-- ---- a cycle that may go on has a calm change; so it is in every list
+abbrev fine : To → Change → Bool
+fine to.On c = calm c
+fine to.Taken c = calm c
+fine to.Crossed c = calm c
+fine to.End c = true
+fine to.EndByte c = true
+fine to.EndBank c = true
+fine to.Moved c = true
+
+abbrev orderly : Cycle → Bool
+orderly Absent = true
+orderly (Present q m c t) = fine t c
+
+abbrev allOrderly : List Cycle → Bool
+allOrderly [] = true
+allOrderly (x ∷ cs) = orderly x && allOrderly cs
+
+orderly-at : (cs : List Cycle) (n : ℕ) → allOrderly cs ≡ true → orderly (getD cs n Absent) ≡ true
+orderly-at [] n h = refl
+orderly-at (x ∷ cs) zero h = and-left (orderly x) (allOrderly cs) h
+orderly-at (x ∷ cs) (suc n) h = orderly-at cs n (and-right (orderly x) (allOrderly cs) h)
+
+lists-orderly : (s : Shape) (w d e : Bool) → allOrderly (cyclesOf s w d e) ≡ true
+lists-orderly shape.Immediate true d e = refl
+lists-orderly shape.Immediate false d e = refl
+lists-orderly shape.Absolute true d e = refl
+lists-orderly shape.Absolute false d e = refl
+lists-orderly shape.Direct true true e = refl
+lists-orderly shape.Direct true false e = refl
+lists-orderly shape.Direct false true e = refl
+lists-orderly shape.Direct false false e = refl
+lists-orderly shape.StoreAbsolute true d e = refl
+lists-orderly shape.StoreAbsolute false d e = refl
+lists-orderly shape.StoreDirect true true e = refl
+lists-orderly shape.StoreDirect true false e = refl
+lists-orderly shape.StoreDirect false true e = refl
+lists-orderly shape.StoreDirect false false e = refl
+lists-orderly shape.Implied w d e = refl
+lists-orderly shape.Xba w d e = refl
+lists-orderly shape.Mask w d e = refl
+lists-orderly shape.Wdm w d e = refl
+lists-orderly shape.Push true d e = refl
+lists-orderly shape.Push false d e = refl
+lists-orderly shape.Pull true d e = refl
+lists-orderly shape.Pull false d e = refl
+lists-orderly shape.PullP w d e = refl
+lists-orderly shape.PullB w d e = refl
+lists-orderly shape.PullD w d e = refl
+lists-orderly shape.Pea w d e = refl
+lists-orderly shape.Pei w true e = refl
+lists-orderly shape.Pei w false e = refl
+lists-orderly shape.Per w d e = refl
+lists-orderly shape.Jump w d e = refl
+lists-orderly shape.JumpLong w d e = refl
+lists-orderly shape.JumpIndirect w d e = refl
+lists-orderly shape.JumpIndirectLong w d e = refl
+lists-orderly shape.JumpIndexed w d e = refl
+lists-orderly shape.Call w d e = refl
+lists-orderly shape.CallIndexed w d e = refl
+lists-orderly shape.CallLong w d e = refl
+lists-orderly shape.Return w d e = refl
+lists-orderly shape.ReturnLong w d e = refl
+lists-orderly shape.Branch w d true = refl
+lists-orderly shape.Branch w d false = refl
+lists-orderly shape.BranchLong w d e = refl
+lists-orderly shape.Move w d e = refl
+
+phase-orderly : (s : Shape) (w d e : Bool) (tcu : ℕ) → orderly (phaseOf s w d e tcu) ≡ true
+phase-orderly s w d e tcu = orderly-at (cyclesOf s w d e) tcu (lists-orderly s w d e)
+
+-- ---- so is every cycle that a record may come to
+abbrev inOrder : Micro → Bool
+inOrder (Refuse n) = true
+inOrder Fetch = true
+inOrder (Held q m c t o) = fine t c
+
+carrying-in-order : (o : Operation) (x : Cycle) → orderly x ≡ true → inOrder (carrying o x) ≡ true
+carrying-in-order o Absent h = refl
+carrying-in-order o (Present q m c t) h = h
+
+held-in-order : (o : Op) (f : Flags) (d tcu : ℕ) → inOrder (heldMicro o f d tcu) ≡ true
+held-in-order op.Unlisted f d tcu = refl
+held-in-order (op.Listed s o) f d tcu =
+    let w : Bool = wideOf o (f .memsel) (f .indexsel) in
+    carrying-in-order o (phaseOf s w (unaligned d) (f .emulation) tcu) (phase-orderly s w (unaligned d) (f .emulation) tcu)
+
+picked-in-order : (w h : Bool) (m : Micro) → inOrder m ≡ true → inOrder (pick w (pick h m Fetch) (Refuse Malformed)) ≡ true
+picked-in-order true true m e = e
+picked-in-order true false m e = refl
+picked-in-order false h m e = refl
+
+micro-in-order : (r : Record) → inOrder (microOf r) ≡ true
+unfolding microOf
+micro-in-order r =
+    picked-in-order (wellFormed r) (r .held) (heldMicro (decodeOf (r .ir)) (r .flags) (r .d) (r .tcu))
+    (held-in-order (decodeOf (r .ir)) (r .flags) (r .d) (r .tcu))
+
+-- ---- where it leads
+abbrev leads : Way → Change → Bool
+leads (On pbr) c = calm c
+leads (End pbr) c = true
+leads (Again pbr) c = true
+
+either-way : (t : Bool) (pbr : ℕ) (c : Change) → calm c ≡ true → leads (unless t pbr) c ≡ true
+either-way true pbr c h = h
+either-way false pbr c h = refl
+
+byte-ends : (last : Bool) (pbr : ℕ) (c : Change) → leads (movedOn last pbr) c ≡ true
+byte-ends true pbr c = refl
+byte-ends false pbr c = refl
+
+fine-leads : (t : To) (c : Change) (o : Operation) (r : Record) (b : ℕ) → fine t c ≡ true → leads (wayOf t o r b) c ≡ true
+fine-leads to.On c o r b h = h
+fine-leads to.End c o r b h = refl
+fine-leads to.EndByte c o r b h = refl
+fine-leads to.EndBank c o r b h = refl
+fine-leads to.Taken c o r b h = either-way (holds (condIn o) (r .flags)) (r .pbr) c h
+fine-leads to.Crossed c o r b h = either-way (not (samePage (r .pc) (target r))) (r .pbr) c h
+fine-leads to.Moved c o r b h = byte-ends (lastByte r) (r .pbr) c
+
+well-arrived : (w : Way) (c : Change) (o : Operation) (r : Record) (b : ℕ) (t : Mid) → leads w c ≡ true → narrowed (r .flags) (r .x) (r .y) ≡ true
+    → wellFormed (arrived w (r .ir) (r .tcu) (regsAfter c o r b) t) ≡ true
+well-arrived (On pbr) c o r b t e h = well-under-way (r .ir) (r .tcu % 8) pbr (regsAfter c o r b) t (calm-narrow c o r b e h)
+well-arrived (End pbr) c o r b t e h = well-ended (r .ir) false pbr (t .pc) (t .s) (t .dbr) (regsAfter c o r b)
+well-arrived (Again pbr) c o r b t e h = well-ended (r .ir) true pbr (t .pc) (t .s) (t .dbr) (regsAfter c o r b)
+
+abbrev Well : Answer → Type 0
+Well (Next s) = wellFormed s ≡ true
+Well (Refused n) = Unit
+
+well-begun : (o : Op) (r : Record) (b : ℕ) → narrowed (r .flags) (r .x) (r .y) ≡ true → Well (begun o r b)
+well-begun op.Unlisted r b h = tt
+well-begun (op.Listed s o) r b h = well-under-way b 0 (r .pbr) (regsOf r) (past (midOf r)) h
+
+well-answered : (m : Micro) (r : Record) (b : ℕ) → inOrder m ≡ true → narrowed (r .flags) (r .x) (r .y) ≡ true → Well (answeredBy m r b)
+well-answered (Refuse n) r b e h = tt
+well-answered Fetch r b e h = well-begun (decodeOf b) r b h
+well-answered (Held q m c t o) r b e h = well-arrived (wayOf t o r b) c o r b (midAfter m o r b) (fine-leads t c o r b e) h
+
+-- A record reached by an answered cycle from a well-formed one is well formed.
+pub kept : (r s : Record) (b : ℕ) → wellFormed r ≡ true → answerOf r b ≡ Next s → wellFormed s ≡ true
+unfolding answerOf wellFormed
+kept r s b w e = subst Well e (well-answered (microOf r) r b (micro-in-order r) (and-left _ _ w))
