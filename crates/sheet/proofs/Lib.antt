@@ -5,3 +5,4 @@ pub mod Kept
 pub mod Counts
 pub mod Refusals
 pub mod WholeMove
+pub mod Figures
