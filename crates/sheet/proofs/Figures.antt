@@ -7,12 +7,11 @@ use Rattle.alu.specs.Alu.{nz, summed, adcByte, sbcByte, cmpByte, bitByte, loadB
 use Rattle.cpu.specs.Registers.{operates, pulls, directs, swaps, moves}
 use Rattle.cpu.specs.Record.{wellFormed, ended, pushed, pulled}
 use Rattle.opcodes.specs.Opcodes.{oneBytes, opcodes, decodeOf}
-use Rattle.act.specs.Act.{actOf}
 use Rattle.step.specs.Cycle.{microOf, requestOf, answerOf}
 use Rattle.sheet.specs.Run.{run}
 use Rattle.sheet.specs.Sheet.{instruction}
 use Rattle.sheet.specs.Figures.{figures, FiguresHold}
 
 pub figures-hold : FiguresHold
-unfolding figures instruction run requestOf answerOf microOf actOf decodeOf opcodes oneBytes wellFormed ended pushed pulled operates pulls directs swaps moves nz summed adcByte sbcByte cmpByte bitByte loadByte adcBinary adcDecimal sbcDecimal adcOf sbcOf byteOf setByte setNZ word lowSet swapped inc dec sum16 signed displaced at sum24 samePage pageOne index
+unfolding figures instruction run requestOf answerOf microOf decodeOf opcodes oneBytes wellFormed ended pushed pulled operates pulls directs swaps moves nz summed adcByte sbcByte cmpByte bitByte loadByte adcBinary adcDecimal sbcDecimal adcOf sbcOf byteOf setByte setNZ word lowSet swapped inc dec sum16 signed displaced at sum24 samePage pageOne index
 figures-hold = record { sheet = refl; cycles = refl }
