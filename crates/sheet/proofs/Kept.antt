@@ -39,6 +39,7 @@ use Rattle.act.specs.declared.types.Way.the-variants.{On, End, Again}
 use Rattle.step.specs.Cycle.{microOf, begun, answeredBy, answerOf}
 use Rattle.sheet.proofs.Walk.{well-under-way, and-left, and-right, both-true, false-true, steady, steady-fits}
 use Rattle.sheet.proofs.Shapes.{masks-narrow, index-small}
+use Rattle.sheet.proofs.Rows.{calm, fine, silent, inOrder, micro-in-order}
 
 -- ---- what an end makes so
 widths-set : (e m x : Bool) → implied e ((e || m) && (e || x)) ≡ true
@@ -60,23 +61,6 @@ well-ended ir again pbr pc s dbr g =
     both-true _ _
     (both-true _ _ (widths-set (g .flags .emulation) (g .flags .memsel) (g .flags .indexsel)) (index-small (g .flags .emulation || g .flags .indexsel) (g .x) (g .y)))
     (implied-by (boundary again (pick again ir 0) 0) _ (stack-home (g .flags .emulation) s))
-
--- ---- what goes on: the changes that a cycle before the last makes keep the index registers and width flags in order
-abbrev calm : Change → Bool
-calm Keep = true
-calm OperateLow = true
-calm PullLow = true
-calm Mask = true
-calm DirectLow = true
-calm OperateOnly = false
-calm OperateHigh = false
-calm PullOnly = false
-calm PullHigh = false
-calm Apply = false
-calm Status = false
-calm Sign = false
-calm DirectHigh = false
-calm MoveByte = false
 
 -- the registers after a cycle, narrow where their index flag says so
 abbrev NarrowAfter : Change → Operation → Record → ℕ → Type 0
@@ -100,104 +84,6 @@ calm-narrow Status o r b e h = absurd (false-true e)
 calm-narrow Sign o r b e h = absurd (false-true e)
 calm-narrow DirectHigh o r b e h = absurd (false-true e)
 calm-narrow MoveByte o r b e h = absurd (false-true e)
-
--- ---- a cycle that may go on has a calm change; so it is in every list
-abbrev fine : To → Change → Bool
-fine to.On c = calm c
-fine to.Taken c = calm c
-fine to.Crossed c = calm c
-fine to.End c = true
-fine to.EndByte c = true
-fine to.EndBank c = true
-fine to.Moved c = true
-
-abbrev orderly : Cycle → Bool
-orderly Absent = true
-orderly (Present q m c t) = fine t c
-
-abbrev allOrderly : List Cycle → Bool
-allOrderly [] = true
-allOrderly (x ∷ cs) = orderly x && allOrderly cs
-
-orderly-at : (cs : List Cycle) (n : ℕ) → allOrderly cs ≡ true → orderly (getD cs n Absent) ≡ true
-orderly-at [] n h = refl
-orderly-at (x ∷ cs) zero h = and-left (orderly x) (allOrderly cs) h
-orderly-at (x ∷ cs) (suc n) h = orderly-at cs n (and-right (orderly x) (allOrderly cs) h)
-
-lists-orderly : (s : Shape) (w d e : Bool) → allOrderly (cyclesOf s w d e) ≡ true
-lists-orderly shape.Immediate true d e = refl
-lists-orderly shape.Immediate false d e = refl
-lists-orderly shape.Absolute true d e = refl
-lists-orderly shape.Absolute false d e = refl
-lists-orderly shape.Direct true true e = refl
-lists-orderly shape.Direct true false e = refl
-lists-orderly shape.Direct false true e = refl
-lists-orderly shape.Direct false false e = refl
-lists-orderly shape.StoreAbsolute true d e = refl
-lists-orderly shape.StoreAbsolute false d e = refl
-lists-orderly shape.StoreDirect true true e = refl
-lists-orderly shape.StoreDirect true false e = refl
-lists-orderly shape.StoreDirect false true e = refl
-lists-orderly shape.StoreDirect false false e = refl
-lists-orderly shape.Implied w d e = refl
-lists-orderly shape.Xba w d e = refl
-lists-orderly shape.Mask w d e = refl
-lists-orderly shape.Wdm w d e = refl
-lists-orderly shape.Push true d e = refl
-lists-orderly shape.Push false d e = refl
-lists-orderly shape.Pull true d e = refl
-lists-orderly shape.Pull false d e = refl
-lists-orderly shape.PullP w d e = refl
-lists-orderly shape.PullB w d e = refl
-lists-orderly shape.PullD w d e = refl
-lists-orderly shape.Pea w d e = refl
-lists-orderly shape.Pei w true e = refl
-lists-orderly shape.Pei w false e = refl
-lists-orderly shape.Per w d e = refl
-lists-orderly shape.Jump w d e = refl
-lists-orderly shape.JumpLong w d e = refl
-lists-orderly shape.JumpIndirect w d e = refl
-lists-orderly shape.JumpIndirectLong w d e = refl
-lists-orderly shape.JumpIndexed w d e = refl
-lists-orderly shape.Call w d e = refl
-lists-orderly shape.CallIndexed w d e = refl
-lists-orderly shape.CallLong w d e = refl
-lists-orderly shape.Return w d e = refl
-lists-orderly shape.ReturnLong w d e = refl
-lists-orderly shape.Branch w d true = refl
-lists-orderly shape.Branch w d false = refl
-lists-orderly shape.BranchLong w d e = refl
-lists-orderly shape.Move w d e = refl
-
-phase-orderly : (s : Shape) (w d e : Bool) (tcu : ℕ) → orderly (phaseOf s w d e tcu) ≡ true
-phase-orderly s w d e tcu = orderly-at (cyclesOf s w d e) tcu (lists-orderly s w d e)
-
--- ---- so is every cycle that a record may come to
-abbrev inOrder : Micro → Bool
-inOrder (Refuse n) = true
-inOrder Fetch = true
-inOrder (Held q m c t o) = fine t c
-
-carrying-in-order : (o : Operation) (x : Cycle) → orderly x ≡ true → inOrder (carrying o x) ≡ true
-carrying-in-order o Absent h = refl
-carrying-in-order o (Present q m c t) h = h
-
-held-in-order : (o : Op) (f : Flags) (d tcu : ℕ) → inOrder (heldMicro o f d tcu) ≡ true
-held-in-order op.Unlisted f d tcu = refl
-held-in-order (op.Listed s o) f d tcu =
-    let w : Bool = wideOf o (f .memsel) (f .indexsel) in
-    carrying-in-order o (phaseOf s w (unaligned d) (f .emulation) tcu) (phase-orderly s w (unaligned d) (f .emulation) tcu)
-
-picked-in-order : (w h : Bool) (m : Micro) → inOrder m ≡ true → inOrder (pick w (pick h m Fetch) (Refuse Malformed)) ≡ true
-picked-in-order true true m e = e
-picked-in-order true false m e = refl
-picked-in-order false h m e = refl
-
-micro-in-order : (r : Record) → inOrder (microOf r) ≡ true
-unfolding microOf
-micro-in-order r =
-    picked-in-order (wellFormed r) (r .held) (heldMicro (decodeOf (r .ir)) (r .flags) (r .d) (r .tcu))
-    (held-in-order (decodeOf (r .ir)) (r .flags) (r .d) (r .tcu))
 
 -- ---- where it leads
 abbrev leads : Way → Change → Bool
@@ -239,7 +125,7 @@ well-begun (op.Listed s o) r b h = well-under-way b 0 (r .pbr) (regsOf r) (past 
 well-answered : (m : Micro) (r : Record) (b : ℕ) → inOrder m ≡ true → narrowed (r .flags) (r .x) (r .y) ≡ true → Well (answeredBy m r b)
 well-answered (Refuse n) r b e h = tt
 well-answered Fetch r b e h = well-begun (decodeOf b) r b h
-well-answered (Held q m c t o) r b e h = well-arrived (wayOf t o r b) c o r b (midAfter m o r b) (fine-leads t c o r b e) h
+well-answered (Held q m c t o) r b e h = well-arrived (wayOf t o r b) c o r b (midAfter m o r b) (fine-leads t c o r b (and-left (fine t c) (silent q m c t) e)) h
 
 -- A record reached by an answered cycle from a well-formed one is well formed.
 pub kept : (r s : Record) (b : ℕ) → wellFormed r ≡ true → answerOf r b ≡ Next s → wellFormed s ≡ true

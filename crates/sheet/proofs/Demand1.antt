@@ -1,0 +1,181 @@
+-- Demand 1: any record and any answered byte is accepted, or refused by a number of document 01's list; no caller checks first.
+-- What a refusal is given for stands in Refusals; here: the two entries refuse alike, and after a write the byte is ignored.
+use Prim.Native.Nat.{ℕ, _≤_}
+use mathlib.Core.Path.{_≡_, refl, sym, ap, subst, _∙_}
+use mathlib.Core.Bool.{Bool, true, false, _&&_}
+use mathlib.Core.Logic.{_⊎_, inl, inr}
+use Rattle.cpu.specs.Record.{numberOf}
+use Rattle.cpu.specs.declared.types.Record.{Record}
+use Rattle.cpu.specs.declared.types.Refusal.{Refusal}
+use Rattle.cpu.specs.declared.types.Request.{Request}
+use Rattle.cpu.specs.declared.types.Asked.{Asked}
+use Rattle.cpu.specs.declared.types.Asked.the-variants.{Ask, No}
+use Rattle.cpu.specs.declared.types.Answer.{Answer}
+use Rattle.cpu.specs.declared.types.Answer.the-variants.{Next, Refused}
+use Rattle.opcodes.specs.declared.types.Operation.{Operation}
+use Rattle.cycles.specs.declared.types.Ask.{Ask as Asks}
+use Rattle.cycles.specs.declared.types.Ask.the-variants as ask
+use Rattle.cycles.specs.declared.types.Move.{Move}
+use Rattle.cycles.specs.declared.types.Move.the-variants as move
+use Rattle.cycles.specs.declared.types.Change.{Change}
+use Rattle.cycles.specs.declared.types.Change.the-variants as change
+use Rattle.cycles.specs.declared.types.To.{To}
+use Rattle.cycles.specs.declared.types.To.the-variants as to
+use Rattle.cycles.specs.declared.types.Micro.{Micro}
+use Rattle.cycles.specs.declared.types.Micro.the-variants.{Refuse, Fetch, Held}
+use Rattle.bus.specs.Bus.{askOf}
+use Rattle.act.specs.Act.{midAfter, regsAfter, wayOf, arrived, actOf}
+use Rattle.step.specs.Cycle.{microOf, askedBy, answeredBy, requestOf, answerOf}
+use Rattle.sheet.proofs.Walk.{and-left, and-right, false-true}
+use Rattle.sheet.proofs.Rows.{writing, deafMove, deafChange, deafTo, fine, silent, inOrder, micro-in-order}
+use Rattle.sheet.proofs.Refusals.{request-numbers, answer-numbers}
+
+-- ---- accepted, or refused by 4, 5 or 6
+pub data Outcome (a : Answer) : Type 0 where
+  accepted : (s : Record) → a ≡ Next s → Outcome a
+  refused : (n : Refusal) → a ≡ Refused n → 4 ≤ numberOf n → numberOf n ≤ 6 → Outcome a
+
+outcome : (r : Record) (b : ℕ) (a : Answer) → answerOf r b ≡ a → Outcome a
+outcome r b (Next s) e = accepted s refl
+outcome r b (Refused n) e = refused n refl (answer-numbers r b n e .0) (answer-numbers r b n e .1)
+
+-- Demand 1, for a cycle.
+pub demand-1 : (r : Record) (b : ℕ) → Outcome (answerOf r b)
+demand-1 r b = outcome r b (answerOf r b) refl
+
+-- ---- what the request refuses, the answer refuses, whatever the byte
+refused-by : (m : Micro) (r : Record) (b : ℕ) (n : Refusal) → askedBy m r ≡ No n → answeredBy m r b ≡ Refused n
+refused-by (Refuse k) r b n e = let same : k ≡ n = cc in ap Refused same
+refused-by Fetch r b n e = absurd (ask-no e)
+  where
+    ask-no : {q : Request} → Ask q ≡ No n → ⊥
+    ask-no h = let z : _≡_ {A = Bool} false true = cc in false-true z
+refused-by (Held q m c t o) r b n e = absurd (ask-no e)
+  where
+    ask-no : {q : Request} → Ask q ≡ No n → ⊥
+    ask-no h = let z : _≡_ {A = Bool} false true = cc in false-true z
+
+pub refused-alike : (r : Record) (b : ℕ) (n : Refusal) → requestOf r ≡ No n → answerOf r b ≡ Refused n
+unfolding requestOf answerOf
+refused-alike r b n e = refused-by (microOf r) r b n e
+
+-- ---- after a write the byte is ignored
+writes-so : (q : Asks) (o : Operation) (r : Record) → askOf q o r .write ≡ writing q
+writes-so ask.Program o r = refl
+writes-so ask.Idle o r = refl
+writes-so ask.IdleBack o r = refl
+writes-so ask.IdleAfter o r = refl
+writes-so ask.IdleStack o r = refl
+writes-so ask.IdleHome o r = refl
+writes-so ask.Opcode o r = refl
+writes-so ask.Far o r = refl
+writes-so ask.FarNext o r = refl
+writes-so ask.Near o r = refl
+writes-so ask.NearNext o r = refl
+writes-so ask.NearThird o r = refl
+writes-so ask.Table o r = refl
+writes-so ask.TableNext o r = refl
+writes-so ask.PullPaged o r = refl
+writes-so ask.PullRaw o r = refl
+writes-so ask.PullHome o r = refl
+writes-so ask.StoreFar o r = refl
+writes-so ask.StoreFarNext o r = refl
+writes-so ask.StoreNear o r = refl
+writes-so ask.StoreNearNext o r = refl
+writes-so ask.PushLow o r = refl
+writes-so ask.PushHigh o r = refl
+writes-so ask.PushPcLow o r = refl
+writes-so ask.PushPcHigh o r = refl
+writes-so ask.PushDataLow o r = refl
+writes-so ask.PushDataHigh o r = refl
+writes-so ask.PushPbr o r = refl
+writes-so ask.MoveRead o r = refl
+writes-so ask.MoveWrite o r = refl
+writes-so ask.MoveIdle o r = refl
+
+move-deaf : (m : Move) (o : Operation) (r : Record) (b c : ℕ) → deafMove m ≡ true → midAfter m o r b ≡ midAfter m o r c
+move-deaf move.Stay o r b c h = refl
+move-deaf move.Step o r b c h = absurd (false-true h)
+move-deaf move.AddrLow o r b c h = absurd (false-true h)
+move-deaf move.AddrHigh o r b c h = absurd (false-true h)
+move-deaf move.AddrLast o r b c h = absurd (false-true h)
+move-deaf move.Offset o r b c h = absurd (false-true h)
+move-deaf move.DataLow o r b c h = absurd (false-true h)
+move-deaf move.DataHigh o r b c h = absurd (false-true h)
+move-deaf move.ReadLow o r b c h = absurd (false-true h)
+move-deaf move.ReadHigh o r b c h = absurd (false-true h)
+move-deaf move.BankByte o r b c h = absurd (false-true h)
+move-deaf move.PullPaged o r b c h = absurd (false-true h)
+move-deaf move.PullRaw o r b c h = absurd (false-true h)
+move-deaf move.PullBank o r b c h = absurd (false-true h)
+move-deaf move.PushPaged o r b c h = refl
+move-deaf move.PushRaw o r b c h = refl
+move-deaf move.Stacked o r b c h = absurd (false-true h)
+move-deaf move.Relative o r b c h = absurd (false-true h)
+move-deaf move.JumpRead o r b c h = absurd (false-true h)
+move-deaf move.JumpAddr o r b c h = absurd (false-true h)
+move-deaf move.JumpData o r b c h = absurd (false-true h)
+move-deaf move.Call o r b c h = refl
+move-deaf move.PcLowPaged o r b c h = absurd (false-true h)
+move-deaf move.PcLowHome o r b c h = absurd (false-true h)
+move-deaf move.PcHighPaged o r b c h = absurd (false-true h)
+move-deaf move.PcHighRaw o r b c h = absurd (false-true h)
+move-deaf move.ReturnLong o r b c h = absurd (false-true h)
+move-deaf move.Branch o r b c h = absurd (false-true h)
+move-deaf move.Take o r b c h = absurd (false-true h)
+move-deaf move.TakeLong o r b c h = absurd (false-true h)
+move-deaf move.MoveTo o r b c h = absurd (false-true h)
+move-deaf move.MoveFrom o r b c h = absurd (false-true h)
+move-deaf move.MoveStore o r b c h = refl
+move-deaf move.MoveEnd o r b c h = absurd (false-true h)
+
+change-deaf : (k : Change) (o : Operation) (r : Record) (b c : ℕ) → deafChange k ≡ true → regsAfter k o r b ≡ regsAfter k o r c
+change-deaf change.Keep o r b c h = refl
+change-deaf change.OperateOnly o r b c h = absurd (false-true h)
+change-deaf change.OperateLow o r b c h = absurd (false-true h)
+change-deaf change.OperateHigh o r b c h = absurd (false-true h)
+change-deaf change.PullOnly o r b c h = absurd (false-true h)
+change-deaf change.PullLow o r b c h = absurd (false-true h)
+change-deaf change.PullHigh o r b c h = absurd (false-true h)
+change-deaf change.Apply o r b c h = absurd (false-true h)
+change-deaf change.Mask o r b c h = absurd (false-true h)
+change-deaf change.Status o r b c h = absurd (false-true h)
+change-deaf change.Sign o r b c h = absurd (false-true h)
+change-deaf change.DirectLow o r b c h = absurd (false-true h)
+change-deaf change.DirectHigh o r b c h = absurd (false-true h)
+change-deaf change.MoveByte o r b c h = absurd (false-true h)
+
+to-deaf : (t : To) (o : Operation) (r : Record) (b c : ℕ) → deafTo t ≡ true → wayOf t o r b ≡ wayOf t o r c
+to-deaf to.On o r b c h = refl
+to-deaf to.End o r b c h = refl
+to-deaf to.EndByte o r b c h = absurd (false-true h)
+to-deaf to.EndBank o r b c h = refl
+to-deaf to.Taken o r b c h = absurd (false-true h)
+to-deaf to.Crossed o r b c h = absurd (false-true h)
+to-deaf to.Moved o r b c h = absurd (false-true h)
+
+module _ (r : Record) (b c : ℕ) where
+  act-deaf : (m : Move) (k : Change) (t : To) (o : Operation) → (deafMove m && (deafChange k && deafTo t)) ≡ true → actOf m k t o r b ≡ actOf m k t o r c
+  act-deaf m k t o h =
+      let rest : (deafChange k && deafTo t) ≡ true = and-right (deafMove m) (deafChange k && deafTo t) h in
+      rw (
+        move-deaf m o r b c (and-left (deafMove m) (deafChange k && deafTo t) h),
+        change-deaf k o r b c (and-left (deafChange k) (deafTo t) rest),
+        to-deaf t o r b c (and-right (deafChange k) (deafTo t) rest),
+      )
+
+  held-ignores : (q : Asks) (m : Move) (k : Change) (t : To) (o : Operation) → silent q m k t ≡ true → writing q ≡ true → actOf m k t o r b ≡ actOf m k t o r c
+  held-ignores q m k t o h w = act-deaf m k t o (rw w at h)
+
+  written : {p q : Request} → Ask p ≡ Ask q → q .write ≡ true → p .write ≡ true
+  written {p} {q} e w = let same : p ≡ q = cc in ap (λ (x : Request). x .write) same ∙ w
+
+  micro-ignores : (m : Micro) (q : Request) → inOrder m ≡ true → askedBy m r ≡ Ask q → q .write ≡ true → answeredBy m r b ≡ answeredBy m r c
+  micro-ignores (Refuse n) q i e w = refl
+  micro-ignores Fetch q i e w = absurd (false-true (written e w))
+  micro-ignores (Held p m k t o) q i e w =
+      ap Next (held-ignores p m k t o (and-right (fine t k) (silent p m k t) i) (sym (writes-so p o r) ∙ written e w))
+
+pub write-ignores : (r : Record) (b c : ℕ) (q : Request) → requestOf r ≡ Ask q → q .write ≡ true → answerOf r b ≡ answerOf r c
+unfolding requestOf answerOf
+write-ignores r b c q e w = micro-ignores r b c (microOf r) q (micro-in-order r) e w
