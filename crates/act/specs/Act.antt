@@ -1,5 +1,5 @@
 -- What a cycle makes of the answered byte: PC, S, DBR and the scratch words; the registers; where it leads; then the record.
-use Prim.Native.Nat.{ℕ, zero, suc, _%_}
+use Prim.Native.Nat.{ℕ, suc, _%_}
 use mathlib.Core.Bool.{Bool, true, false, not}
 use lib.Dec.{eqb}
 use Rattle.words.specs.Words.{pick, lowOf, word, lowSet, inc, dec, sum16, displaced, samePage}

@@ -1,11 +1,10 @@
 // What a cycle does to A, X, Y, D and the flags.
 ghost use mathlib.Core.Path.{_≡_};
 ghost use mathlib.Core.Bool.{false};
-ghost use Rattle.words.specs.Words.{word};
 ghost use Rattle.flags.specs.Flags.{setByte, setNZ};
-ghost use Rattle.cpu.specs.Registers.{operates, pulls, directs, masks, moves, setFlags, applied};
+ghost use Rattle.cpu.specs.Registers.{operates, pulls, setFlags};
 ghost use Rattle.cpu.specs.Record.{regsOf};
-ghost use Rattle.opcodes.specs.Opcodes.{aluOf, regOf, oneIn, flagIn};
+ghost use Rattle.opcodes.specs.Opcodes.{aluOf, regOf};
 ghost use Rattle.act.specs.Act.{regsAfter};
 use cpu::change::apply;
 use cpu::change::direct;

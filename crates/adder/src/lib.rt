@@ -1,7 +1,7 @@
 // One byte of ADC and of SBC, binary and decimal: the crate's `adc_bcd` and the body of its `sbc`.
 ghost use mathlib.Core.Path.{_≡_};
 ghost use Prim.Native.Nat.{_<_};
-ghost use Rattle.adder.specs.Adder.{plain, half, overflow, addSix, addSixty, takeSix, takeSixty, complement, adcBinary, adcDecimal, sbcDecimal, adcOf, sbcOf};
+ghost use Rattle.adder.specs.Adder.{plain, half, overflow, addSix, addSixty, takeSix, takeSixty, adcBinary, adcDecimal, sbcDecimal, adcOf, sbcOf};
 use words::both;
 use words::either;
 use words::one_if;

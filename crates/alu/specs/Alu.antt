@@ -1,8 +1,8 @@
 -- Arithmetic and logic: a byte of each operation, then the width by chaining bytes.
 -- `first` says that no byte came before, so that Z starts anew; `top` that this byte has the sign, so that N is its.
-use Prim.Native.Nat.{ℕ, zero, suc, _+_, _*_, _/_, _%_}
-use mathlib.Core.Bool.{Bool, true, false, not, _&&_, _||_}
-use lib.Dec.{eqb, leb, ltb}
+use Prim.Native.Nat.{ℕ, zero, _+_, _*_, _/_, _%_}
+use mathlib.Core.Bool.{Bool, true, false, _&&_, _||_}
+use lib.Dec.{eqb, leb}
 use lib.Bits.{bitAnd, bitOr, bitXor}
 use Rattle.words.specs.Words.{pick, bit, lowOf, highOf, word, lowSet}
 use Rattle.flags.specs.Flags.{setNVZC}

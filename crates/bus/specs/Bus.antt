@@ -1,6 +1,6 @@
 -- What a cycle asks of the bus: direction, kind, 24-bit address and, for a write, the byte. It depends on the record alone.
 use Prim.Native.Nat.{ℕ}
-use mathlib.Core.Bool.{Bool, true, false}
+use mathlib.Core.Bool.{true, false}
 use Rattle.words.specs.Words.{lowOf, highOf, inc, dec, sum16, at, sum24, pageOne}
 use Rattle.cpu.specs.Record.{regsOf, sourceOf, pulled}
 use Rattle.cpu.specs.declared.types.Record.{Record}

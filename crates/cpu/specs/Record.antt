@@ -1,5 +1,5 @@
 -- The record: well-formed ones, and the two ways in which a cycle makes a new one.
-use Prim.Native.Nat.{ℕ, _+_, _/_, _%_}
+use Prim.Native.Nat.{ℕ, _/_}
 use mathlib.Core.Bool.{Bool, true, false, not, _&&_, _||_}
 use lib.Dec.{eqb, ltb}
 use Rattle.words.specs.Words.{pick, implied, inc, dec, pageOne, index}

@@ -1,8 +1,8 @@
 -- What an operation makes of the registers: no program counter, no stack pointer, no scratch word here.
-use Prim.Native.Nat.{ℕ, _+_, _*_, _/_, _%_}
+use Prim.Native.Nat.{ℕ}
 use mathlib.Core.Bool.{Bool, true, false, not}
 use Rattle.words.specs.Words.{pick, lowOf, highOf, word, lowSet, swapped, inc, dec, index}
-use Rattle.flags.specs.Flags.{setMask, setByte, setNVZC, setNZ, setID, swapCE}
+use Rattle.flags.specs.Flags.{setMask, setNVZC, setNZ, setID, swapCE}
 use Rattle.flags.specs.declared.Flags.{Flags}
 use Rattle.alu.specs.Alu.{operated, shiftedAt, withCarry}
 use Rattle.alu.specs.declared.types.Alu.{Alu}

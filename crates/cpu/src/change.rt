@@ -25,7 +25,6 @@ use alu::ops::operate;
 use alu::shifts::shift_at;
 use alu::types::Alu;
 use alu::types::Shift;
-use flags::Flags;
 use words::down;
 use words::index_at;
 use words::low;

@@ -1,7 +1,7 @@
 // The record: which ones are well formed, the two ways in which a cycle makes a new one, the stack, and what is stored.
 ghost use mathlib.Core.Path.{_≡_};
 ghost use Rattle.words.specs.Words.{pick};
-ghost use Rattle.cpu.specs.Record.{numberOf, isMove, boundary, widthsSet, indexSmall, narrowed, clean, wellFormed, midOf, regsOf, underWay, ended, pushed, pulled, sourceOf, wideSource, same, holds};
+ghost use Rattle.cpu.specs.Record.{numberOf, boundary, narrowed, clean, wellFormed, midOf, regsOf, underWay, ended, pushed, pulled, sourceOf, wideSource, same, holds};
 use crate::registers::is_wide;
 use crate::registers::value_of;
 use crate::types::Cond;

@@ -19,9 +19,7 @@ use Rattle.cycles.specs.declared.types.Ask.{Ask}
 use Rattle.cycles.specs.declared.types.Ask.the-variants.{Program, Idle, IdleBack, IdleAfter, IdleStack, IdleHome, Opcode, Far, FarNext, Near, NearNext, NearThird, Table, TableNext, PullPaged, PullRaw, PullHome, StoreFar, StoreFarNext, StoreNear, StoreNearNext, PushLow, PushHigh, PushPcLow, PushPcHigh, PushDataLow, PushDataHigh, PushPbr, MoveRead, MoveWrite, MoveIdle}
 use Rattle.cycles.specs.declared.types.Move.{Move}
 use Rattle.cycles.specs.declared.types.Move.the-variants as mv
-use Rattle.cycles.specs.declared.types.Change.{Change}
 use Rattle.cycles.specs.declared.types.Change.the-variants.{Keep, OperateOnly, OperateLow, OperateHigh, PullOnly, PullLow, PullHigh, Apply, Mask, Status, Sign, DirectLow, DirectHigh, MoveByte}
-use Rattle.cycles.specs.declared.types.To.{To}
 use Rattle.cycles.specs.declared.types.To.the-variants.{On, End, EndByte, EndBank, Taken, Crossed, Moved}
 use Rattle.cycles.specs.declared.types.Cycle.{Cycle}
 use Rattle.cycles.specs.declared.types.Cycle.the-variants.{Absent, Present}

@@ -1,6 +1,6 @@
 -- The status register: what REP, SEP, PLP, PHP and XCE make of it, and N and Z of a value.
 use Prim.Native.Nat.{ℕ, _+_, _/_, _%_}
-use mathlib.Core.Bool.{Bool, true, false, _||_}
+use mathlib.Core.Bool.{Bool, _||_}
 use lib.Dec.{eqb, leb}
 use Rattle.words.specs.Words.{pick}
 use Rattle.flags.specs.declared.Flags.{Flags}

@@ -1,7 +1,7 @@
 -- The opcode list of document 01.
 use Prim.Native.Nat.{ℕ, _/_, _%_}
 use mathlib.Core.Bool.{Bool, true, false}
-use mathlib.Core.List.{List, [], _∷_, _++_, map}
+use mathlib.Core.List.{List, [], _∷_, map}
 use lib.Dec.{eqb}
 use Rattle.words.specs.Words.{pick}
 use Rattle.cpu.specs.Registers.{wideReg}

@@ -1,6 +1,6 @@
 // The opcode byte.
 ghost use mathlib.Core.Path.{_≡_};
-ghost use Rattle.opcodes.specs.Opcodes.{oneOf, columnOf, operationOf, bit5, indexOf, conditionOf, decodeOf, isListed};
+ghost use Rattle.opcodes.specs.Opcodes.{oneOf, columnOf, operationOf, indexOf, conditionOf, decodeOf, isListed};
 use crate::types::Op;
 use crate::types::Operation;
 use crate::types::Shape;

@@ -1,14 +1,12 @@
 -- Demand 1: any record and any answered byte is accepted, or refused by a number of document 01's list; no caller checks first.
 -- What a refusal is given for stands in Refusals; here: the two entries refuse alike, and after a write the byte is ignored.
 use Prim.Native.Nat.{ℕ, _≤_}
-use mathlib.Core.Path.{_≡_, refl, sym, ap, subst, _∙_}
+use mathlib.Core.Path.{_≡_, refl, sym, ap, _∙_}
 use mathlib.Core.Bool.{Bool, true, false, _&&_}
-use mathlib.Core.Logic.{_⊎_, inl, inr}
 use Rattle.cpu.specs.Record.{numberOf}
 use Rattle.cpu.specs.declared.types.Record.{Record}
 use Rattle.cpu.specs.declared.types.Refusal.{Refusal}
 use Rattle.cpu.specs.declared.types.Request.{Request}
-use Rattle.cpu.specs.declared.types.Asked.{Asked}
 use Rattle.cpu.specs.declared.types.Asked.the-variants.{Ask, No}
 use Rattle.cpu.specs.declared.types.Answer.{Answer}
 use Rattle.cpu.specs.declared.types.Answer.the-variants.{Next, Refused}
@@ -24,11 +22,11 @@ use Rattle.cycles.specs.declared.types.To.the-variants as to
 use Rattle.cycles.specs.declared.types.Micro.{Micro}
 use Rattle.cycles.specs.declared.types.Micro.the-variants.{Refuse, Fetch, Held}
 use Rattle.bus.specs.Bus.{askOf}
-use Rattle.act.specs.Act.{midAfter, regsAfter, wayOf, arrived, actOf}
+use Rattle.act.specs.Act.{midAfter, regsAfter, wayOf, actOf}
 use Rattle.step.specs.Cycle.{microOf, askedBy, answeredBy, requestOf, answerOf}
 use Rattle.sheet.proofs.Walk.{and-left, and-right, false-true}
 use Rattle.sheet.proofs.Rows.{writing, deafMove, deafChange, deafTo, fine, silent, inOrder, micro-in-order}
-use Rattle.sheet.proofs.Refusals.{request-numbers, answer-numbers}
+use Rattle.sheet.proofs.Refusals.{answer-numbers}
 
 -- ---- accepted, or refused by 4, 5 or 6
 pub data Outcome (a : Answer) : Type 0 where

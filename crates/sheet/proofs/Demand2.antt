@@ -1,7 +1,7 @@
 -- Demand 2: cycle after cycle from an instruction's start is the instruction as the sheet's table has it.
 use Prim.Native.Nat.{ℕ, zero, suc, _<_}
 use mathlib.Core.Path.{_≡_, refl, ap, _∙_}
-use mathlib.Core.Bool.{Bool, true, false}
+use mathlib.Core.Bool.{true, false}
 use Rattle.cpu.specs.Record.{narrowed, wellFormed, midOf, regsOf, underWay}
 use Rattle.cpu.specs.declared.types.Record.{Record}
 use Rattle.opcodes.specs.Opcodes.{decodeOf, wideOf}

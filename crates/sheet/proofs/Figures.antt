@@ -4,7 +4,7 @@ use Rattle.words.specs.Words.{word, lowSet, swapped, inc, dec, sum16, signed, d
 use Rattle.flags.specs.Flags.{byteOf, setByte, setNZ}
 use Rattle.adder.specs.Adder.{adcBinary, adcDecimal, sbcDecimal, adcOf, sbcOf}
 use Rattle.alu.specs.Alu.{nz, summed, adcByte, sbcByte, cmpByte, bitByte, loadByte}
-use Rattle.cpu.specs.Registers.{operates, pulls, directs, swaps, moves}
+use Rattle.cpu.specs.Registers.{operates, pulls, directs, swaps, moves, transfers}
 use Rattle.cpu.specs.Record.{wellFormed, ended, pushed, pulled}
 use Rattle.opcodes.specs.Opcodes.{oneBytes, opcodes, decodeOf}
 use Rattle.step.specs.Cycle.{microOf, requestOf, answerOf}
@@ -13,5 +13,5 @@ use Rattle.sheet.specs.Sheet.{instruction}
 use Rattle.sheet.specs.Figures.{figures, FiguresHold}
 
 pub figures-hold : FiguresHold
-unfolding figures instruction run requestOf answerOf microOf decodeOf opcodes oneBytes wellFormed ended pushed pulled operates pulls directs swaps moves nz summed adcByte sbcByte cmpByte bitByte loadByte adcBinary adcDecimal sbcDecimal adcOf sbcOf byteOf setByte setNZ word lowSet swapped inc dec sum16 signed displaced at sum24 samePage pageOne index
+unfolding figures instruction run requestOf answerOf microOf decodeOf opcodes oneBytes wellFormed ended pushed pulled operates pulls directs swaps moves transfers nz summed adcByte sbcByte cmpByte bitByte loadByte adcBinary adcDecimal sbcDecimal adcOf sbcOf byteOf setByte setNZ word lowSet swapped inc dec sum16 signed displaced at sum24 samePage pageOne index
 figures-hold = record { sheet = refl; cycles = refl }

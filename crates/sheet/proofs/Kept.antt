@@ -1,43 +1,36 @@
 -- Well-formedness is kept: from any well-formed record an accepted cycle gives a well-formed record.
 -- A record is made in two ways only, under way and ended.
-use Prim.Native.Nat.{ℕ, zero, suc, _+_, _/_, _%_}
+use Prim.Native.Nat.{ℕ, _+_, _/_, _%_}
 use native.Mathlib.Omega.{arith}
 use mathlib.Core.Path.{_≡_, refl, subst}
 use mathlib.Core.Bool.{Bool, true, false, not, _&&_, _||_}
-use mathlib.Core.List.{List, [], _∷_}
 use lib.Dec.{eqb}
-use lib.ListN.{getD}
 use borrow.Author.Tests.{eq-eqb}
 use Rattle.words.specs.Words.{pick, implied, samePage, pageOne}
-use Rattle.flags.specs.declared.Flags.{Flags}
 use Rattle.cpu.specs.Record.{boundary, narrowed, wellFormed, midOf, regsOf, ended, holds}
 use Rattle.cpu.specs.declared.types.Record.{Record}
 use Rattle.cpu.specs.declared.types.Regs.{Regs}
 use Rattle.cpu.specs.declared.types.Mid.{Mid}
-use Rattle.cpu.specs.declared.types.Refusal.the-variants.{Malformed}
 use Rattle.cpu.specs.declared.types.Answer.{Answer}
 use Rattle.cpu.specs.declared.types.Answer.the-variants.{Next, Refused}
-use Rattle.opcodes.specs.Opcodes.{decodeOf, condIn, flagIn, wideOf}
+use Rattle.opcodes.specs.Opcodes.{decodeOf, condIn, flagIn}
 use Rattle.opcodes.specs.declared.types.Op.{Op}
 use Rattle.opcodes.specs.declared.types.Op.the-variants as op
 use Rattle.opcodes.specs.declared.types.Operation.{Operation}
 use Rattle.opcodes.specs.declared.types.Operation.the-variants.{Plain}
-use Rattle.opcodes.specs.declared.types.Shape.{Shape}
 use Rattle.opcodes.specs.declared.types.Shape.the-variants as shape
-use Rattle.cycles.specs.Cycles.{wdm, cyclesOf, phaseOf, unaligned, carrying, heldMicro}
+use Rattle.cycles.specs.Cycles.{wdm}
 use Rattle.cycles.specs.declared.types.Change.{Change}
 use Rattle.cycles.specs.declared.types.Change.the-variants.{Keep, OperateOnly, OperateLow, OperateHigh, PullOnly, PullLow, PullHigh, Apply, Mask, Status, Sign, DirectLow, DirectHigh, MoveByte}
 use Rattle.cycles.specs.declared.types.To.{To}
 use Rattle.cycles.specs.declared.types.To.the-variants as to
-use Rattle.cycles.specs.declared.types.Cycle.{Cycle}
-use Rattle.cycles.specs.declared.types.Cycle.the-variants.{Absent, Present}
 use Rattle.cycles.specs.declared.types.Micro.{Micro}
 use Rattle.cycles.specs.declared.types.Micro.the-variants.{Refuse, Fetch, Held}
 use Rattle.act.specs.Act.{past, target, lastByte, midAfter, regsAfter, unless, movedOn, wayOf, arrived}
 use Rattle.act.specs.declared.types.Way.{Way}
 use Rattle.act.specs.declared.types.Way.the-variants.{On, End, Again}
 use Rattle.step.specs.Cycle.{microOf, begun, answeredBy, answerOf}
-use Rattle.sheet.proofs.Walk.{well-under-way, and-left, and-right, both-true, false-true, steady, steady-fits}
+use Rattle.sheet.proofs.Walk.{well-under-way, and-left, both-true, false-true, steady, steady-fits}
 use Rattle.sheet.proofs.Shapes.{masks-narrow, index-small}
 use Rattle.sheet.proofs.Rows.{calm, fine, silent, inOrder, micro-in-order}
 

@@ -8,3 +8,5 @@ pub mod Refusals
 pub mod WholeMove
 pub mod Figures
 pub mod Demand1
+pub mod Lengths
+pub mod Moving

@@ -1,19 +1,17 @@
 -- A walk along a shape's list is the sheet's row of that shape, whatever the operation.
-use Prim.Native.Nat.{ℕ, zero, suc, _+_, _*_, _/_, _%_, _<_}
+use Prim.Native.Nat.{ℕ, _%_, _<_}
 use native.Mathlib.Omega.{arith}
-use mathlib.Core.Path.{_≡_, refl, ap, sym, _∙_}
-use mathlib.Core.Bool.{Bool, true, false, not, _&&_, _||_}
-use mathlib.Core.List.{List, [], _∷_}
+use mathlib.Core.Path.{_≡_, refl}
+use mathlib.Core.Bool.{Bool, true, false, _&&_}
 use lib.Dec.{eqb, ltb}
 use borrow.Author.Tests.{lt-ltb}
 use Rattle.words.specs.Words.{pick, implied, lowOf, word, lowSet, inc, dec, up, displaced, samePage, index}
 use Rattle.flags.specs.Flags.{setMask}
 use Rattle.flags.specs.declared.Flags.{Flags}
 use Rattle.cpu.specs.Registers.{pulls, masks, directs, setD}
-use Rattle.cpu.specs.Record.{widthsSet, indexSmall, narrowed, midOf, regsOf, underWay, ended, holds, pulled}
+use Rattle.cpu.specs.Record.{widthsSet, indexSmall, narrowed, midOf, regsOf, holds, pulled}
 use Rattle.cpu.specs.declared.types.Record.{Record}
 use Rattle.cpu.specs.declared.types.Regs.{Regs}
-use Rattle.cpu.specs.declared.types.Mid.{Mid}
 use Rattle.cpu.specs.declared.types.Reg.{Reg}
 use Rattle.cpu.specs.declared.types.Reg.the-variants.{A, X, Y}
 use Rattle.cpu.specs.declared.types.Part.the-variants.{Low}
@@ -25,9 +23,9 @@ use Rattle.opcodes.specs.declared.types.Shape.{Shape}
 use Rattle.opcodes.specs.declared.types.Shape.the-variants.{Immediate, Absolute, Direct, StoreAbsolute, StoreDirect, Implied, Xba, Mask, Wdm, Push, Pull, PullP, PullB, PullD, Pea, Pei, Per, Jump, JumpLong, JumpIndirect, JumpIndirectLong, JumpIndexed, Call, CallIndexed, CallLong, Return, ReturnLong, Branch, BranchLong, Move}
 use Rattle.cycles.specs.Cycles.{cyclesOf, mask, pullD}
 use Rattle.act.specs.Act.{past, setS}
-use Rattle.sheet.specs.Run.{Ran, also, later, run}
+use Rattle.sheet.specs.Run.{also, later}
 use Rattle.sheet.specs.Sheet.{O, K, sheet}
-use Rattle.sheet.proofs.Walk.{walk, run-walks, Fits, both-true, widths-of}
+use Rattle.sheet.proofs.Walk.{walk, run-walks, both-true, widths-of}
 
 -- ---- steps there and back, and a word whose low byte was set first
 back : (p : ℕ) → dec (inc (inc p)) ≡ inc p

@@ -1,27 +1,27 @@
 -- Cycle after cycle from a list that was looked up once: as long as no width, no mode and not D changes, every cycle of an
 -- instruction reads the same list. What a run does is then a walk along that list, which computes.
-use Prim.Native.Nat.{ℕ, zero, suc, _+_, _*_, _/_, _%_, _<_}
+use Prim.Native.Nat.{ℕ, zero, suc, _+_, _*_, _/_, _%_}
 use native.Mathlib.Omega.{arith}
-use mathlib.Core.Path.{_≡_, refl, ap, sym, _∙_}
-use mathlib.Core.Bool.{Bool, true, false, not, _&&_, _||_}
-use mathlib.Core.List.{List, [], _∷_}
+use mathlib.Core.Path.{_≡_, refl, ap, _∙_}
+use mathlib.Core.Bool.{Bool, true, false, not, _&&_}
+use mathlib.Core.List.{List, []}
 use lib.Dec.{eqb, ltb}
 use lib.ListN.{getD}
 use borrow.Author.Tests.{ne-eqb, lt-ltb, ltb-true}
-use Rattle.words.specs.Words.{pick, implied, lowSet, inc, dec}
+use Rattle.words.specs.Words.{pick, implied, lowSet}
 use Rattle.flags.specs.declared.Flags.{Flags}
 use Rattle.alu.specs.Alu.{nz, summed, adcByte, sbcByte, cmpByte, andByte, oraByte, eorByte, bitByte, loadByte, operated}
 use Rattle.alu.specs.declared.types.Alu.{Alu}
 use Rattle.alu.specs.declared.types.Alu.the-variants.{Adc, Sbc, Cmp, And, Ora, Eor, Bit, BitImmediate, Load}
 use Rattle.alu.specs.declared.types.Byte.{Byte}
 use Rattle.cpu.specs.Registers.{operates, pulls, half}
-use Rattle.cpu.specs.Record.{isMove, widthsSet, indexSmall, narrowed, clean, wellFormed, midOf, regsOf, underWay, ended}
+use Rattle.cpu.specs.Record.{isMove, widthsSet, indexSmall, narrowed, clean, wellFormed, regsOf, underWay, ended}
 use Rattle.cpu.specs.declared.types.Record.{Record}
 use Rattle.cpu.specs.declared.types.Mid.{Mid}
 use Rattle.cpu.specs.declared.types.Regs.{Regs}
 use Rattle.cpu.specs.declared.types.Reg.{Reg}
 use Rattle.cpu.specs.declared.types.Reg.the-variants.{A, X, Y}
-use Rattle.cpu.specs.declared.types.Part.the-variants.{Only, Low, High}
+use Rattle.cpu.specs.declared.types.Part.the-variants.{Low}
 use Rattle.cpu.specs.declared.types.Request.{Request}
 use Rattle.cpu.specs.declared.types.Asked.the-variants.{Ask}
 use Rattle.cpu.specs.declared.types.Answer.the-variants.{Next, Refused}

@@ -66,9 +66,9 @@ told k other (Asks q ∷ l) = told k other l
 abbrev pub raised : Name → List Told → Bool
 raised k l = eqb (told k 0 l) 1
 
--- narrow: accumulator and index registers are 8 bits wide
-abbrev pub start : (emulation narrow : Bool) → List Told → Record
-start emulation narrow l = record {
+-- m: the accumulator is 8 bits wide; x: the index registers are
+abbrev pub start : (emulation m x : Bool) → List Told → Record
+start emulation m x l = record {
   a = told A 0 l;
   x = told X 0 l;
   y = told Y 0 l;
@@ -82,8 +82,8 @@ start emulation narrow l = record {
     zero = raised z l;
     interruptdisable = false;
     decimal = raised d l;
-    indexsel = narrow;
-    memsel = narrow;
+    indexsel = x;
+    memsel = m;
     overflow = raised v l;
     negative = raised n l;
     emulation = emulation;
@@ -97,13 +97,20 @@ start emulation narrow l = record {
 }
 
 abbrev pub emulation : List Told → Record
-emulation l = start true true l
+emulation l = start true true true l
 
 abbrev pub native8 : List Told → Record
-native8 l = start false true l
+native8 l = start false true true l
 
 abbrev pub native16 : List Told → Record
-native16 l = start false false l
+native16 l = start false false false l
+
+-- one wide, the other not
+abbrev pub wideA : List Told → Record
+wideA l = start false false true l
+
+abbrev pub wideIndex : List Told → Record
+wideIndex l = start false true false l
 
 -- ---- a row's instructions, one after the other, on a machine: the sheet's table, or cycle after cycle
 abbrev pub Machine : Type 0
@@ -366,6 +373,18 @@ figures =
     -- MVP, 8-bit index, X 00: next X 00FF
     ∷ row (native8 (A is 0x0001 ∷ X is 0x00 ∷ Y is 0x20 ∷ [])) (0x44 ∷ 0x02 ∷ 0x01 ∷ [])
     (X is 0x00FF ∷ Y is 0x001F ∷ A is 0x0000 ∷ PC is 0x8000 ∷ [])
+    -- ---- our own: M is the accumulator's width, X the index registers'
+    ∷ row (wideA (A is 0x5678 ∷ [])) (0xA9 ∷ 0x34 ∷ 0x12 ∷ []) (A is 0x1234 ∷ Cycles is 3 ∷ PC is 0x8003 ∷ [])
+    ∷ row (wideA (X is 0x0056 ∷ [])) (0xA2 ∷ 0x34 ∷ 0x12 ∷ []) (X is 0x0034 ∷ Cycles is 2 ∷ PC is 0x8002 ∷ [])
+    ∷ row (wideA (X is 0x0080 ∷ A is 0x5678 ∷ [])) (0x8A ∷ []) (A is 0x0080 ∷ n is 0 ∷ [])
+    ∷ row (wideA (X is 0x0034 ∷ [])) (0xDA ∷ []) (Asks (O 0x008000 ∷ I 0x008001 ∷ W 0x0001FF 0x34 ∷ []) ∷ S is 0x01FE ∷ [])
+    ∷ row (wideIndex (A is 0x5678 ∷ [])) (0xA9 ∷ 0x34 ∷ 0x12 ∷ []) (A is 0x5634 ∷ Cycles is 2 ∷ PC is 0x8002 ∷ [])
+    ∷ row (wideIndex (X is 0x5678 ∷ [])) (0xA2 ∷ 0x34 ∷ 0x12 ∷ []) (X is 0x1234 ∷ Cycles is 3 ∷ PC is 0x8003 ∷ [])
+    ∷ row (wideIndex (X is 0x1280 ∷ A is 0x5678 ∷ [])) (0x8A ∷ []) (A is 0x5680 ∷ n is 1 ∷ [])
+    ∷ row (wideIndex (X is 0x1234 ∷ [])) (0xDA ∷ [])
+    (Asks (O 0x008000 ∷ I 0x008001 ∷ W 0x0001FF 0x12 ∷ W 0x0001FE 0x34 ∷ []) ∷ S is 0x01FD ∷ [])
+    -- a byte that isn't listed: refusal 5
+    ∷ row (native8 []) (0x00 ∷ []) (Refusal is 5 ∷ [])
     ∷ []
 
 -- ---- the one statement: what the sheet gives for each row is what the row says, and what cycle after cycle gives is too

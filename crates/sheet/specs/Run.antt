@@ -1,6 +1,6 @@
 -- Cycle after cycle, up to the next boundary: an instruction's start, or a place between a move's bytes.
 use Prim.Native.Nat.{ℕ, zero, suc}
-use mathlib.Core.Bool.{Bool, true, false}
+use mathlib.Core.Bool.{Bool}
 use mathlib.Core.List.{List, [], _∷_}
 use lib.Dec.{eqb}
 use Rattle.words.specs.Words.{pick, implied}

@@ -1,7 +1,7 @@
 -- The data sheet's table: for each shape its bus cycles in order, then the record after them.
 -- `b k` is the byte that is answered in cycle k, counted from 0, the opcode fetch.
 -- w: 16 bits wide; d: the low byte of D isn't 0; e: emulation.
-use Prim.Native.Nat.{ℕ, zero, suc}
+use Prim.Native.Nat.{ℕ, suc}
 use mathlib.Core.Bool.{Bool, true, false, not, _&&_}
 use mathlib.Core.List.{List, [], _∷_, _++_}
 use lib.Dec.{eqb}
@@ -107,110 +107,132 @@ module _ (r : Record) (b : ℕ → ℕ) where
   ends p s g = endsIn (r .pbr) p s g
 
   abbrev pub sheet : Shape → Operation → (w d e : Bool) → Ran
+  -- immediate: 2 + w
   sheet Immediate o w d e = record {
     requests = O (K 0) ∷ P (K 1) ∷ when w (P (K 2) ∷ []);
     out = ends (pc (pick w 3 2)) S (effect o w 1);
   }
+  -- absolute, read: 4 + w
   sheet Absolute o w d e = record {
     requests = O (K 0) ∷ P (K 1) ∷ P (K 2) ∷ D B·AA ∷ when w (D B·AA+1 ∷ []);
     out = ends (pc 3) S (effect o w 3);
   }
+  -- direct, read: 3 + w + d
   sheet Direct o w d e = record {
     requests = O (K 0) ∷ P (K 1) ∷ (when d (I (K 1) ∷ []) ++ (D (at 0 D+DO) ∷ when w (D (at 0 (inc D+DO)) ∷ [])));
     out = ends (pc 2) S (effect o w (pick d 3 2));
   }
+  -- absolute, write: 4 + w
   sheet StoreAbsolute o w d e = record {
     requests = O (K 0) ∷ P (K 1) ∷ P (K 2) ∷ W B·AA (lowOf (given o)) ∷ when w (W B·AA+1 (highOf (given o)) ∷ []);
     out = ends (pc 3) S regs;
   }
+  -- direct, write: 3 + w + d
   sheet StoreDirect o w d e = record {
     requests = O (K 0) ∷ P (K 1) ∷ (when d (I (K 1) ∷ []) ++ (W (at 0 D+DO) (lowOf (given o)) ∷ when w (W (at 0 (inc D+DO)) (highOf (given o)) ∷ [])));
     out = ends (pc 2) S regs;
   }
+  -- accumulator and one byte: 2
   sheet Implied o w d e = record {
     requests = O (K 0) ∷ I (K 1) ∷ [];
     out = ends (pc 1) (stackOf (oneIn o) S regs) (applied (oneIn o) S regs);
   }
+  -- XBA: 3
   sheet Xba o w d e = record {
     requests = O (K 0) ∷ I (K 1) ∷ I (K 1) ∷ [];
     out = ends (pc 1) S (applied (oneIn o) S regs);
   }
-  -- REP, SEP: the internal cycle is past the operand (docs/DECISIONS.md)
+  -- REP, SEP: 3; the internal cycle is past the operand (docs/DECISIONS.md)
   sheet Mask o w d e = record {
     requests = O (K 0) ∷ P (K 1) ∷ I (K 2) ∷ [];
     out = ends (pc 2) S (masks (flagIn o) (b 1) regs);
   }
+  -- WDM: 2; its byte is thrown away
   sheet Wdm o w d e = record {
     requests = O (K 0) ∷ P (K 1) ∷ [];
     out = ends (pc 2) S regs;
   }
+  -- PHA PHX PHY PHP PHB PHK: 3 + w; PHD: 4
   sheet Push o w d e = record {
     requests = O (K 0) ∷ I (K 1) ∷ (when w (W (at 0 S) (highOf (given o)) ∷ []) ++ (W (at 0 (down S (pick w 1 0))) (lowOf (given o)) ∷ []));
     out = ends (pc 1) (down S (pick w 2 1)) regs;
   }
+  -- PLA PLX PLY: 4 + w
   sheet Pull o w d e =
       let s₁ : ℕ = pulled Paged E S in
       let s₂ : ℕ = pulled Paged E s₁ in record {
         requests = O (K 0) ∷ I (K 1) ∷ I (K 1) ∷ D (at 0 s₁) ∷ when w (D (at 0 s₂) ∷ []);
         out = ends (pc 1) (pick w s₂ s₁) (pulling o w);
       }
+  -- PLP: 4
   sheet PullP o w d e =
       let s₁ : ℕ = pulled Paged E S in record {
         requests = O (K 0) ∷ I (K 1) ∷ I (K 1) ∷ D (at 0 s₁) ∷ [];
         out = ends (pc 1) s₁ (setFlags (setByte (r .flags) (b 3)) regs);
       }
+  -- PLB: 4; S + 1 without staying in page 1
   sheet PullB o w d e =
       let s₁ : ℕ = pulled Raw E S in record {
         requests = O (K 0) ∷ I (K 1) ∷ I (K 1) ∷ D (at 0 s₁) ∷ [];
         out = Next (ended (b 0) false (r .pbr) (pc 1) s₁ (b 3) (setFlags (setNZ (r .flags) (b 3) false) regs));
       }
+  -- PLD: 5
   sheet PullD o w d e =
       let s₁ : ℕ = pulled Raw E S in
       let s₂ : ℕ = pulled Raw E s₁ in record {
         requests = O (K 0) ∷ I (K 1) ∷ I (K 1) ∷ D (at 0 s₁) ∷ D (at 0 s₂) ∷ [];
         out = ends (pc 1) s₂ (directs (wordAt 3) regs);
       }
+  -- PEA: 5
   sheet Pea o w d e = record {
     requests = O (K 0) ∷ P (K 1) ∷ P (K 2) ∷ W (at 0 S) (highOf AA) ∷ W (at 0 (down S 1)) (lowOf AA) ∷ [];
     out = ends (pc 3) (down S 2) regs;
   }
+  -- PEI: 6 + d
   sheet Pei o w d e =
       let v : ℕ = wordAt (pick d 3 2) in record {
         requests = O (K 0) ∷ P (K 1) ∷ (when d (I (K 1) ∷ [])
             ++ (D (at 0 D+DO) ∷ D (at 0 (inc D+DO)) ∷ W (at 0 S) (highOf v) ∷ W (at 0 (down S 1)) (lowOf v) ∷ []));
         out = ends (pc 2) (down S 2) regs;
       }
+  -- PER: 6; what is pushed counts from past the operand
   sheet Per o w d e =
       let v : ℕ = sum16 (pc 3) AA in record {
         requests = O (K 0) ∷ P (K 1) ∷ P (K 2) ∷ I (K 2) ∷ W (at 0 S) (highOf v) ∷ W (at 0 (down S 1)) (lowOf v) ∷ [];
         out = ends (pc 3) (down S 2) regs;
       }
+  -- JMP a: 3
   sheet Jump o w d e = record {
     requests = O (K 0) ∷ P (K 1) ∷ P (K 2) ∷ [];
     out = ends AA S regs;
   }
+  -- JMP long: 4
   sheet JumpLong o w d e = record {
     requests = O (K 0) ∷ P (K 1) ∷ P (K 2) ∷ P (K 3) ∷ [];
     out = endsIn (b 3) AA S regs;
   }
+  -- JMP (a): 5
   sheet JumpIndirect o w d e = record {
     requests = O (K 0) ∷ P (K 1) ∷ P (K 2) ∷ D (at 0 AA) ∷ D (at 0 (up AA 1)) ∷ [];
     out = ends (wordAt 3) S regs;
   }
+  -- JMP [a]: 6
   sheet JumpIndirectLong o w d e = record {
     requests = O (K 0) ∷ P (K 1) ∷ P (K 2) ∷ D (at 0 AA) ∷ D (at 0 (up AA 1)) ∷ D (at 0 (up AA 2)) ∷ [];
     out = endsIn (b 5) (wordAt 3) S regs;
   }
+  -- JMP (a,x): 6
   sheet JumpIndexed o w d e = record {
     requests = O (K 0) ∷ P (K 1) ∷ P (K 2) ∷ I (K 2) ∷ P (at (r .pbr) AA+X) ∷ P (at (r .pbr) (inc AA+X)) ∷ [];
     out = ends (wordAt 4) S regs;
   }
-  -- JSR: the address of the instruction's last byte is pushed, inside page 1 in emulation
+  -- JSR a: 6; the address of the instruction's last byte is pushed, inside page 1 in emulation
   sheet Call o w d e =
       let s₁ : ℕ = pushed E S in record {
         requests = O (K 0) ∷ P (K 1) ∷ P (K 2) ∷ I (K 2) ∷ W (at 0 S) (highOf (pc 2)) ∷ W (at 0 s₁) (lowOf (pc 2)) ∷ [];
         out = ends AA (dec s₁) regs;
       }
+  -- JSR (a,x): 8; likewise
   sheet CallIndexed o w d e =
       let s₁ : ℕ = pushed E S in
       let q : ℕ = sum16 (word (b 1) (b 4)) (r .x) in record {
@@ -218,19 +240,21 @@ module _ (r : Record) (b : ℕ → ℕ) where
             ∷ P (at (r .pbr) q) ∷ P (at (r .pbr) (inc q)) ∷ [];
         out = ends (wordAt 6) (pushed E s₁) regs;
       }
-  -- JSL: the internal cycle asks S + 1, S being past the pushed bank
+  -- JSL: 8; the internal cycle asks S + 1, S being past the pushed bank
   sheet CallLong o w d e =
       let s₁ : ℕ = down S 1 in record {
         requests = O (K 0) ∷ P (K 1) ∷ P (K 2) ∷ W (at 0 S) (r .pbr) ∷ I (at 0 (inc s₁)) ∷ P (K 3)
             ∷ W (at 0 s₁) (highOf (pc 3)) ∷ W (at 0 (down S 2)) (lowOf (pc 3)) ∷ [];
         out = endsIn (b 5) AA (down S 3) regs;
       }
+  -- RTS: 6; PC is one more than what was pulled
   sheet Return o w d e =
       let s₁ : ℕ = pulled Paged E S in
       let s₂ : ℕ = pulled Paged E s₁ in record {
         requests = O (K 0) ∷ I (K 1) ∷ I (K 1) ∷ D (at 0 s₁) ∷ D (at 0 s₂) ∷ I (at 0 (pageOne E s₂)) ∷ [];
         out = ends (inc (wordAt 3)) s₂ regs;
       }
+  -- RTL: 6; the first pull starts in page 1 in emulation
   sheet ReturnLong o w d e =
       let s₁ : ℕ = pulled Home E S in
       let s₂ : ℕ = pulled Raw E s₁ in
@@ -238,18 +262,19 @@ module _ (r : Record) (b : ℕ → ℕ) where
         requests = O (K 0) ∷ I (K 1) ∷ I (K 1) ∷ D (at 0 s₁) ∷ D (at 0 s₂) ∷ D (at 0 s₃) ∷ [];
         out = endsIn (b 5) (inc (wordAt 3)) s₃ regs;
       }
-  -- a branch that is taken has one cycle more and, in emulation, another one where it leads to another page
+  -- a branch: 2; taken it has one cycle more and, in emulation, another one where it leads to another page
   sheet Branch o w d e =
       let taken : Bool = holds (condIn o) (r .flags) in
       let q : ℕ = displaced (pc 2) (lowOf (b 1)) in record {
         requests = O (K 0) ∷ P (K 1) ∷ when taken (I (K 2) ∷ when (e && not (samePage (pc 2) q)) (I (K 2) ∷ []));
         out = ends (pick taken q (pc 2)) S regs;
       }
+  -- BRL: 4
   sheet BranchLong o w d e = record {
     requests = O (K 0) ∷ P (K 1) ∷ P (K 2) ∷ I (K 2) ∷ [];
     out = ends (sum16 (pc 3) AA) S regs;
   }
-  -- a byte of a move: destination bank, source bank; FFFF in A afterwards ends the move
+  -- MVN, MVP, a byte: 7; destination bank, source bank; FFFF in A afterwards ends the move
   sheet Move o w d e =
       let q : ℕ = at (b 1) (r .y) in
       let last : Bool = eqb (dec (r .a)) 0xFFFF in record {

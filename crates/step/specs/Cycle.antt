@@ -1,8 +1,7 @@
 -- A cycle, for any record whatever: the request that it makes and, for any answered byte, the record after; or the refusal.
 -- The refusals come in document 01's order: 4, then 5 and 6 of a held opcode, last 5 of a fetched byte.
 use Prim.Native.Nat.{ℕ}
-use mathlib.Core.Bool.{Bool, true, false}
-use Rattle.words.specs.Words.{pick, inc}
+use Rattle.words.specs.Words.{pick}
 use Rattle.cpu.specs.Record.{wellFormed, midOf, regsOf, underWay}
 use Rattle.cpu.specs.declared.types.Record.{Record}
 use Rattle.cpu.specs.declared.types.Kind.the-variants as kind

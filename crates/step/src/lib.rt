@@ -2,7 +2,6 @@
 // Whoever runs many cycles works out `next_micro` once a cycle, then calls `request_at` and `answer_at`.
 ghost use mathlib.Core.Path.{_≡_};
 ghost use Rattle.opcodes.specs.Opcodes.{decodeOf};
-ghost use Rattle.cycles.specs.Cycles.{heldMicro};
 ghost use Rattle.step.specs.Cycle.{wellMicro, microOf, begun, askedBy, answeredBy, requestOf, answerOf};
 use act::arrive::act;
 use act::mid::step_pc;

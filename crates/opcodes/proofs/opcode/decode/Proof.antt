@@ -1,7 +1,6 @@
 use Prim.Native.Nat.{ℕ}
 use mathlib.Core.Path.{_≡_, refl, sym, ap}
 use mathlib.Core.List.{List, [], _∷_}
-use mathlib.Core.Bool.{true, false}
 use borrow.Author.Needs.{needs}
 use Rattle.alu.specs.declared.types.Alu.the-variants.{Cmp, Load}
 use Rattle.cpu.specs.declared.types.Reg.the-variants.{A}

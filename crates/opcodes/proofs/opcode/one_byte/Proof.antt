@@ -1,5 +1,5 @@
 use Prim.Native.Nat.{ℕ}
-use mathlib.Core.Path.{_≡_, refl, sym, ap}
+use mathlib.Core.Path.{sym, ap}
 use mathlib.Core.List.{List, [], _∷_}
 use Rattle.cpu.specs.declared.types.One.the-variants.{Nop}
 use Rattle.opcodes.specs.Opcodes.{oneBytes, oneOf}
