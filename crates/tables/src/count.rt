@@ -14,160 +14,160 @@ use opcodes::types::Op;
 // A row for each shape's number, from 0, which is no shape: cycles, cycles more where it is wide, cycles more where the
 // low byte of D isn't 0, bytes, bytes more where it is wide.
 const COUNTS: [u8; 155] = [
+    0, // not listed
     0,
     0,
+    0, // not listed: bytes
     0,
-    0,
-    0,
-    2,
+    2, // Immediate
     1,
     0,
-    2,
+    2, // Immediate: bytes
     1,
-    4,
-    1,
-    0,
-    3,
-    0,
-    3,
-    1,
-    1,
-    2,
-    0,
-    4,
+    4, // Absolute
     1,
     0,
-    3,
+    3, // Absolute: bytes
     0,
-    3,
+    3, // Direct
     1,
     1,
-    2,
+    2, // Direct: bytes
     0,
-    2,
-    0,
-    0,
+    4, // StoreAbsolute
     1,
     0,
-    3,
+    3, // StoreAbsolute: bytes
+    0,
+    3, // StoreDirect
+    1,
+    1,
+    2, // StoreDirect: bytes
+    0,
+    2, // Implied
     0,
     0,
+    1, // Implied: bytes
+    0,
+    3, // Xba
+    0,
+    0,
+    1, // Xba: bytes
+    0,
+    3, // Mask
+    0,
+    0,
+    2, // Mask: bytes
+    0,
+    2, // Wdm
+    0,
+    0,
+    2, // Wdm: bytes
+    0,
+    3, // Push
     1,
     0,
-    3,
+    1, // Push: bytes
     0,
-    0,
-    2,
-    0,
-    2,
-    0,
-    0,
-    2,
-    0,
-    3,
+    4, // Pull
     1,
     0,
-    1,
+    1, // Pull: bytes
     0,
-    4,
-    1,
-    0,
-    1,
-    0,
-    4,
+    4, // PullP
     0,
     0,
-    1,
+    1, // PullP: bytes
     0,
-    4,
-    0,
-    0,
-    1,
-    0,
-    5,
+    4, // PullB
     0,
     0,
-    1,
+    1, // PullB: bytes
     0,
-    5,
+    5, // PullD
     0,
     0,
-    3,
+    1, // PullD: bytes
     0,
-    6,
+    5, // Pea
+    0,
+    0,
+    3, // Pea: bytes
+    0,
+    6, // Pei
     0,
     1,
-    2,
+    2, // Pei: bytes
     0,
-    6,
-    0,
-    0,
-    3,
-    0,
-    3,
+    6, // Per
     0,
     0,
-    3,
+    3, // Per: bytes
     0,
-    4,
-    0,
-    0,
-    4,
-    0,
-    5,
+    3, // Jump
     0,
     0,
-    3,
+    3, // Jump: bytes
     0,
-    6,
-    0,
-    0,
-    3,
-    0,
-    6,
+    4, // JumpLong
     0,
     0,
-    3,
+    4, // JumpLong: bytes
     0,
-    6,
-    0,
-    0,
-    3,
-    0,
-    8,
+    5, // JumpIndirect
     0,
     0,
-    3,
+    3, // JumpIndirect: bytes
     0,
-    8,
-    0,
-    0,
-    4,
-    0,
-    6,
+    6, // JumpIndirectLong
     0,
     0,
-    1,
+    3, // JumpIndirectLong: bytes
     0,
-    6,
-    0,
-    0,
-    1,
-    0,
-    2,
+    6, // JumpIndexed
     0,
     0,
-    2,
+    3, // JumpIndexed: bytes
     0,
-    4,
-    0,
-    0,
-    3,
-    0,
-    7,
+    6, // Call
     0,
     0,
-    3,
+    3, // Call: bytes
+    0,
+    8, // CallIndexed
+    0,
+    0,
+    3, // CallIndexed: bytes
+    0,
+    8, // CallLong
+    0,
+    0,
+    4, // CallLong: bytes
+    0,
+    6, // Return
+    0,
+    0,
+    1, // Return: bytes
+    0,
+    6, // ReturnLong
+    0,
+    0,
+    1, // ReturnLong: bytes
+    0,
+    2, // Branch
+    0,
+    0,
+    2, // Branch: bytes
+    0,
+    4, // BranchLong
+    0,
+    0,
+    3, // BranchLong: bytes
+    0,
+    7, // Move
+    0,
+    0,
+    3, // Move: bytes
     0,
 ];
 
