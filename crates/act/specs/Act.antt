@@ -16,7 +16,7 @@ use Rattle.opcodes.specs.declared.types.Operation.{Operation}
 use Rattle.cycles.specs.declared.types.Move.{Move}
 use Rattle.cycles.specs.declared.types.Move.the-variants.{Stay, Step, AddrLow, AddrHigh, AddrLast, Offset, DataLow, DataHigh, ReadLow, ReadHigh, BankByte, PullPaged, PullRaw, PullBank, PushPaged, PushRaw, Stacked, Relative, JumpRead, JumpAddr, JumpData, Call, PcLowPaged, PcLowHome, PcHighPaged, PcHighRaw, ReturnLong, Branch, Take, TakeLong, MoveTo, MoveFrom, MoveStore, MoveEnd}
 use Rattle.cycles.specs.declared.types.Change.{Change}
-use Rattle.cycles.specs.declared.types.Change.the-variants.{Keep, OperateOnly, OperateLow, OperateHigh, PullOnly, PullLow, PullHigh, Apply, Mask, Status, Sign, DirectLow, DirectHigh, MoveByte}
+use Rattle.cycles.specs.declared.types.Change.the-variants.{Keep, Operate, Fill, Apply, Mask, Status, Sign, DirectLow, DirectHigh, MoveByte}
 use Rattle.cycles.specs.declared.types.To.{To}
 use Rattle.cycles.specs.declared.types.To.the-variants as to
 use Rattle.act.specs.declared.types.Way.{Way}
@@ -92,12 +92,8 @@ midAfter MoveEnd o r b = setPc (pick (lastByte r) (inc (r .pc)) (dec (dec (r .pc
 -- ---- the registers
 abbrev pub regsAfter : Change → Operation → Record → ℕ → Regs
 regsAfter Keep o r b = regsOf r
-regsAfter OperateOnly o r b = operates (aluOf o) (regOf o) Only b (regsOf r)
-regsAfter OperateLow o r b = operates (aluOf o) (regOf o) Low b (regsOf r)
-regsAfter OperateHigh o r b = operates (aluOf o) (regOf o) High b (regsOf r)
-regsAfter PullOnly o r b = pulls (regOf o) Only b (regsOf r)
-regsAfter PullLow o r b = pulls (regOf o) Low b (regsOf r)
-regsAfter PullHigh o r b = pulls (regOf o) High b (regsOf r)
+regsAfter (Operate p) o r b = operates (aluOf o) (regOf o) p b (regsOf r)
+regsAfter (Fill p) o r b = pulls (regOf o) p b (regsOf r)
 regsAfter Apply o r b = applied (oneIn o) (r .s) (regsOf r)
 regsAfter Mask o r b = masks (flagIn o) b (regsOf r)
 regsAfter Status o r b = setFlags (setByte (r .flags) b) (regsOf r)

@@ -57,12 +57,8 @@ pub fn regs_after(c: Change, o: Operation, r: Record, b: u8) -> Regs
 {
     match c {
         Change::Keep => regs(r),
-        Change::OperateOnly => operate(Part::Only, o, r, b),
-        Change::OperateLow => operate(Part::Low, o, r, b),
-        Change::OperateHigh => operate(Part::High, o, r, b),
-        Change::PullOnly => pull(Part::Only, o, r, b),
-        Change::PullLow => pull(Part::Low, o, r, b),
-        Change::PullHigh => pull(Part::High, o, r, b),
+        Change::Operate(p) => operate(p, o, r, b),
+        Change::Fill(p) => pull(p, o, r, b),
         Change::Apply => apply(one_in(o), r.s, regs(r)),
         Change::Mask => masked(flag_in(o), b, regs(r)),
         Change::Status => status(r, b),

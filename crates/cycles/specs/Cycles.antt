@@ -8,6 +8,7 @@ use mathlib.Core.List.{List, [], _∷_}
 use lib.Dec.{eqb}
 use lib.ListN.{getD}
 use Rattle.flags.specs.declared.Flags.{Flags}
+use Rattle.cpu.specs.declared.types.Part.the-variants.{Only, Low, High}
 use Rattle.cpu.specs.declared.types.Refusal.the-variants.{Unlisted, NoCycle}
 use Rattle.opcodes.specs.Opcodes.{wideOf}
 use Rattle.opcodes.specs.declared.types.Op.{Op}
@@ -19,7 +20,7 @@ use Rattle.cycles.specs.declared.types.Ask.{Ask}
 use Rattle.cycles.specs.declared.types.Ask.the-variants.{Program, Idle, IdleBack, IdleAfter, IdleStack, IdleHome, Opcode, Far, FarNext, Near, NearNext, NearThird, Table, TableNext, PullPaged, PullRaw, PullHome, StoreFar, StoreFarNext, StoreNear, StoreNearNext, PushLow, PushHigh, PushPcLow, PushPcHigh, PushDataLow, PushDataHigh, PushPbr, MoveRead, MoveWrite, MoveIdle}
 use Rattle.cycles.specs.declared.types.Move.{Move}
 use Rattle.cycles.specs.declared.types.Move.the-variants as mv
-use Rattle.cycles.specs.declared.types.Change.the-variants.{Keep, OperateOnly, OperateLow, OperateHigh, PullOnly, PullLow, PullHigh, Apply, Mask, Status, Sign, DirectLow, DirectHigh, MoveByte}
+use Rattle.cycles.specs.declared.types.Change.the-variants.{Keep, Operate, Fill, Apply, Mask, Status, Sign, DirectLow, DirectHigh, MoveByte}
 use Rattle.cycles.specs.declared.types.To.the-variants.{On, End, EndByte, EndBank, Taken, Crossed, Moved}
 use Rattle.cycles.specs.declared.types.Cycle.{Cycle}
 use Rattle.cycles.specs.declared.types.Cycle.the-variants.{Absent, Present}
@@ -35,8 +36,8 @@ last q m = Present q m Keep End
 
 -- immediate
 abbrev pub immediate : (w : Bool) → List Cycle
-immediate true = Absent ∷ Present Program mv.Step OperateLow On ∷ Present Program mv.Step OperateHigh End ∷ []
-immediate false = Absent ∷ Present Program mv.Step OperateOnly End ∷ []
+immediate true = Absent ∷ Present Program mv.Step (Operate Low) On ∷ Present Program mv.Step (Operate High) End ∷ []
+immediate false = Absent ∷ Present Program mv.Step (Operate Only) End ∷ []
 
 -- the operand of absolute, and of direct with its idle cycle
 abbrev pub absolute : List Cycle → List Cycle
@@ -48,12 +49,12 @@ direct false rest = Absent ∷ on Program mv.Offset ∷ rest
 
 -- the bytes of a value that is read, and of one that is stored
 abbrev pub readFar : (w : Bool) → List Cycle
-readFar true = Present Far mv.Stay OperateLow On ∷ Present FarNext mv.Stay OperateHigh End ∷ []
-readFar false = Present Far mv.Stay OperateOnly End ∷ []
+readFar true = Present Far mv.Stay (Operate Low) On ∷ Present FarNext mv.Stay (Operate High) End ∷ []
+readFar false = Present Far mv.Stay (Operate Only) End ∷ []
 
 abbrev pub readNear : (w : Bool) → List Cycle
-readNear true = Present Near mv.Stay OperateLow On ∷ Present NearNext mv.Stay OperateHigh End ∷ []
-readNear false = Present Near mv.Stay OperateOnly End ∷ []
+readNear true = Present Near mv.Stay (Operate Low) On ∷ Present NearNext mv.Stay (Operate High) End ∷ []
+readNear false = Present Near mv.Stay (Operate Only) End ∷ []
 
 abbrev pub storeFar : (w : Bool) → List Cycle
 storeFar true = on StoreFar mv.Stay ∷ last StoreFarNext mv.Stay ∷ []
@@ -85,8 +86,8 @@ abbrev pub pulling : List Cycle → List Cycle
 pulling rest = Absent ∷ on Idle mv.Stay ∷ on Idle mv.Stay ∷ rest
 
 abbrev pub pull : (w : Bool) → List Cycle
-pull true = pulling (Present PullPaged mv.PullPaged PullLow On ∷ Present PullPaged mv.PullPaged PullHigh End ∷ [])
-pull false = pulling (Present PullPaged mv.PullPaged PullOnly End ∷ [])
+pull true = pulling (Present PullPaged mv.PullPaged (Fill Low) On ∷ Present PullPaged mv.PullPaged (Fill High) End ∷ [])
+pull false = pulling (Present PullPaged mv.PullPaged (Fill Only) End ∷ [])
 
 abbrev pub pullP : List Cycle
 pullP = pulling (Present PullPaged mv.PullPaged Status End ∷ [])

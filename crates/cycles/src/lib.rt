@@ -1,6 +1,4 @@
-// From a shape to what each of its cycles asks and does.
-pub mod flow;
+// What each cycle of a shape asks and does. The shapes of operands are here, those of the stack and of jumps in crate flow.
 pub mod operand;
 pub mod row;
-pub mod stack;
 pub mod types;

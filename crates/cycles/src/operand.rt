@@ -11,6 +11,7 @@ use crate::types::Change;
 use crate::types::Cycle;
 use crate::types::Move;
 use crate::types::To;
+use cpu::types::Part;
 
 pub fn immediate_at(w: bool, tcu: u8) -> Cycle
     ensures { λ c. ⌜ c ≡ getD (immediate w) tcu Absent ⌝ }
@@ -18,14 +19,24 @@ pub fn immediate_at(w: bool, tcu: u8) -> Cycle
     if w {
         match tcu {
             0 => Cycle::Absent,
-            1 => Cycle::Present(Ask::Program, Move::Step, Change::OperateLow, To::On),
-            2 => Cycle::Present(Ask::Program, Move::Step, Change::OperateHigh, To::End),
+            1 => Cycle::Present(Ask::Program, Move::Step, Change::Operate(Part::Low), To::On),
+            2 => Cycle::Present(
+                Ask::Program,
+                Move::Step,
+                Change::Operate(Part::High),
+                To::End,
+            ),
             _ => Cycle::Absent,
         }
     } else {
         match tcu {
             0 => Cycle::Absent,
-            1 => Cycle::Present(Ask::Program, Move::Step, Change::OperateOnly, To::End),
+            1 => Cycle::Present(
+                Ask::Program,
+                Move::Step,
+                Change::Operate(Part::Only),
+                To::End,
+            ),
             _ => Cycle::Absent,
         }
     }
@@ -39,8 +50,13 @@ pub fn absolute_at(w: bool, tcu: u8) -> Cycle
             0 => Cycle::Absent,
             1 => on(Ask::Program, Move::AddrLow),
             2 => on(Ask::Program, Move::AddrHigh),
-            3 => Cycle::Present(Ask::Far, Move::Stay, Change::OperateLow, To::On),
-            4 => Cycle::Present(Ask::FarNext, Move::Stay, Change::OperateHigh, To::End),
+            3 => Cycle::Present(Ask::Far, Move::Stay, Change::Operate(Part::Low), To::On),
+            4 => Cycle::Present(
+                Ask::FarNext,
+                Move::Stay,
+                Change::Operate(Part::High),
+                To::End,
+            ),
             _ => Cycle::Absent,
         }
     } else {
@@ -48,7 +64,7 @@ pub fn absolute_at(w: bool, tcu: u8) -> Cycle
             0 => Cycle::Absent,
             1 => on(Ask::Program, Move::AddrLow),
             2 => on(Ask::Program, Move::AddrHigh),
-            3 => Cycle::Present(Ask::Far, Move::Stay, Change::OperateOnly, To::End),
+            3 => Cycle::Present(Ask::Far, Move::Stay, Change::Operate(Part::Only), To::End),
             _ => Cycle::Absent,
         }
     }
@@ -62,8 +78,13 @@ pub fn direct_unaligned_at(w: bool, tcu: u8) -> Cycle
             0 => Cycle::Absent,
             1 => on(Ask::Program, Move::Offset),
             2 => on(Ask::IdleBack, Move::Stay),
-            3 => Cycle::Present(Ask::Near, Move::Stay, Change::OperateLow, To::On),
-            4 => Cycle::Present(Ask::NearNext, Move::Stay, Change::OperateHigh, To::End),
+            3 => Cycle::Present(Ask::Near, Move::Stay, Change::Operate(Part::Low), To::On),
+            4 => Cycle::Present(
+                Ask::NearNext,
+                Move::Stay,
+                Change::Operate(Part::High),
+                To::End,
+            ),
             _ => Cycle::Absent,
         }
     } else {
@@ -71,7 +92,7 @@ pub fn direct_unaligned_at(w: bool, tcu: u8) -> Cycle
             0 => Cycle::Absent,
             1 => on(Ask::Program, Move::Offset),
             2 => on(Ask::IdleBack, Move::Stay),
-            3 => Cycle::Present(Ask::Near, Move::Stay, Change::OperateOnly, To::End),
+            3 => Cycle::Present(Ask::Near, Move::Stay, Change::Operate(Part::Only), To::End),
             _ => Cycle::Absent,
         }
     }
@@ -84,15 +105,20 @@ pub fn direct_aligned_at(w: bool, tcu: u8) -> Cycle
         match tcu {
             0 => Cycle::Absent,
             1 => on(Ask::Program, Move::Offset),
-            2 => Cycle::Present(Ask::Near, Move::Stay, Change::OperateLow, To::On),
-            3 => Cycle::Present(Ask::NearNext, Move::Stay, Change::OperateHigh, To::End),
+            2 => Cycle::Present(Ask::Near, Move::Stay, Change::Operate(Part::Low), To::On),
+            3 => Cycle::Present(
+                Ask::NearNext,
+                Move::Stay,
+                Change::Operate(Part::High),
+                To::End,
+            ),
             _ => Cycle::Absent,
         }
     } else {
         match tcu {
             0 => Cycle::Absent,
             1 => on(Ask::Program, Move::Offset),
-            2 => Cycle::Present(Ask::Near, Move::Stay, Change::OperateOnly, To::End),
+            2 => Cycle::Present(Ask::Near, Move::Stay, Change::Operate(Part::Only), To::End),
             _ => Cycle::Absent,
         }
     }

@@ -1,4 +1,5 @@
 // What one cycle asks of the bus, and what it does with the byte that is answered.
+use cpu::types::Part;
 use cpu::types::Refusal;
 use opcodes::types::Operation;
 
@@ -78,12 +79,8 @@ pub enum Move {
 // What a cycle does to A, X, Y, D and the flags.
 pub enum Change {
     Keep,
-    OperateOnly,
-    OperateLow,
-    OperateHigh,
-    PullOnly,
-    PullLow,
-    PullHigh,
+    Operate(Part),
+    Fill(Part), // a pulled register
     Apply,
     Mask,
     Status, // PLP

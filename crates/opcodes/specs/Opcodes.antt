@@ -1,5 +1,5 @@
 -- The opcode list of document 01.
-use Prim.Native.Nat.{ℕ, _/_, _%_}
+use Prim.Native.Nat.{ℕ}
 use mathlib.Core.Bool.{Bool, true, false}
 use mathlib.Core.List.{List, [], _∷_, map}
 use lib.Dec.{eqb}
@@ -169,23 +169,3 @@ wideOf Plain m x = false
 wideOf (Do k) m x = false
 wideOf (If k) m x = false
 wideOf (Flag t) m x = false
-
--- the chip's columns: loads and stores of Y, A and X stand side by side; bits 5 to 7 choose an operation; CPY is a row above CPX;
--- bits 6 and 7 choose a branch's flag and bit 5 its value
-abbrev pub columnOf : ℕ → Reg
-columnOf n = pick (eqb (n % 4) 0) Y (pick (eqb (n % 4) 1) A X)
-
-abbrev pub operationOf : ℕ → Alu
-operationOf n =
-    pick (eqb (n / 32) 0) Ora
-    (pick (eqb (n / 32) 1) And (pick (eqb (n / 32) 2) Eor (pick (eqb (n / 32) 3) Adc (pick (eqb (n / 32) 5) Load (pick (eqb (n / 32) 6) Cmp Sbc)))))
-
-abbrev pub bit5 : ℕ → Bool
-bit5 n = eqb (n / 32 % 2) 1
-
-abbrev pub indexOf : ℕ → Reg
-indexOf n = pick (bit5 n) X Y
-
-abbrev pub conditionOf : ℕ → Cond
-conditionOf n =
-    pick (eqb (n / 64) 0) (if.Negative (bit5 n)) (pick (eqb (n / 64) 1) (if.Overflow (bit5 n)) (pick (eqb (n / 64) 2) (if.Carry (bit5 n)) (if.Zero (bit5 n))))

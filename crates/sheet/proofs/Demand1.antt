@@ -11,6 +11,7 @@ use Rattle.cpu.specs.declared.types.Asked.the-variants.{Ask, No}
 use Rattle.cpu.specs.declared.types.Answer.{Answer}
 use Rattle.cpu.specs.declared.types.Answer.the-variants.{Next, Refused}
 use Rattle.opcodes.specs.declared.types.Operation.{Operation}
+use Rattle.cpu.specs.declared.types.Part.the-variants.{Only, Low, High}
 use Rattle.cycles.specs.declared.types.Ask.{Ask as Asks}
 use Rattle.cycles.specs.declared.types.Ask.the-variants as ask
 use Rattle.cycles.specs.declared.types.Move.{Move}
@@ -129,12 +130,12 @@ move-deaf move.MoveEnd o r b c h = absurd (false-true h)
 
 change-deaf : (k : Change) (o : Operation) (r : Record) (b c : ℕ) → deafChange k ≡ true → regsAfter k o r b ≡ regsAfter k o r c
 change-deaf change.Keep o r b c h = refl
-change-deaf change.OperateOnly o r b c h = absurd (false-true h)
-change-deaf change.OperateLow o r b c h = absurd (false-true h)
-change-deaf change.OperateHigh o r b c h = absurd (false-true h)
-change-deaf change.PullOnly o r b c h = absurd (false-true h)
-change-deaf change.PullLow o r b c h = absurd (false-true h)
-change-deaf change.PullHigh o r b c h = absurd (false-true h)
+change-deaf (change.Operate Only) o r b c h = absurd (false-true h)
+change-deaf (change.Operate Low) o r b c h = absurd (false-true h)
+change-deaf (change.Operate High) o r b c h = absurd (false-true h)
+change-deaf (change.Fill Only) o r b c h = absurd (false-true h)
+change-deaf (change.Fill Low) o r b c h = absurd (false-true h)
+change-deaf (change.Fill High) o r b c h = absurd (false-true h)
 change-deaf change.Apply o r b c h = absurd (false-true h)
 change-deaf change.Mask o r b c h = absurd (false-true h)
 change-deaf change.Status o r b c h = absurd (false-true h)

@@ -20,8 +20,9 @@ use Rattle.opcodes.specs.declared.types.Operation.{Operation}
 use Rattle.opcodes.specs.declared.types.Operation.the-variants.{Plain}
 use Rattle.opcodes.specs.declared.types.Shape.the-variants as shape
 use Rattle.cycles.specs.Cycles.{wdm}
+use Rattle.cpu.specs.declared.types.Part.the-variants.{Only, Low, High}
 use Rattle.cycles.specs.declared.types.Change.{Change}
-use Rattle.cycles.specs.declared.types.Change.the-variants.{Keep, OperateOnly, OperateLow, OperateHigh, PullOnly, PullLow, PullHigh, Apply, Mask, Status, Sign, DirectLow, DirectHigh, MoveByte}
+use Rattle.cycles.specs.declared.types.Change.the-variants.{Keep, Operate, Fill, Apply, Mask, Status, Sign, DirectLow, DirectHigh, MoveByte}
 use Rattle.cycles.specs.declared.types.To.{To}
 use Rattle.cycles.specs.declared.types.To.the-variants as to
 use Rattle.cycles.specs.declared.types.Micro.{Micro}
@@ -64,14 +65,14 @@ steady-narrow c o r b e h = steady-fits shape.Wdm Plain wdm c o r b e (record { 
 
 calm-narrow : (c : Change) (o : Operation) (r : Record) (b : ℕ) → calm c ≡ true → narrowed (r .flags) (r .x) (r .y) ≡ true → NarrowAfter c o r b
 calm-narrow Keep o r b e h = h
-calm-narrow OperateLow o r b e h = steady-narrow OperateLow o r b refl h
-calm-narrow PullLow o r b e h = steady-narrow PullLow o r b refl h
+calm-narrow (Operate Low) o r b e h = steady-narrow (Operate Low) o r b refl h
+calm-narrow (Fill Low) o r b e h = steady-narrow (Fill Low) o r b refl h
 calm-narrow Mask o r b e h = masks-narrow (flagIn o) b (regsOf r) h
 calm-narrow DirectLow o r b e h = h
-calm-narrow OperateOnly o r b e h = absurd (false-true e)
-calm-narrow OperateHigh o r b e h = absurd (false-true e)
-calm-narrow PullOnly o r b e h = absurd (false-true e)
-calm-narrow PullHigh o r b e h = absurd (false-true e)
+calm-narrow (Operate Only) o r b e h = absurd (false-true e)
+calm-narrow (Operate High) o r b e h = absurd (false-true e)
+calm-narrow (Fill Only) o r b e h = absurd (false-true e)
+calm-narrow (Fill High) o r b e h = absurd (false-true e)
 calm-narrow Apply o r b e h = absurd (false-true e)
 calm-narrow Status o r b e h = absurd (false-true e)
 calm-narrow Sign o r b e h = absurd (false-true e)

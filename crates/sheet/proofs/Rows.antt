@@ -17,12 +17,13 @@ use Rattle.opcodes.specs.declared.types.Operation.{Operation}
 use Rattle.opcodes.specs.declared.types.Shape.{Shape}
 use Rattle.opcodes.specs.declared.types.Shape.the-variants as shape
 use Rattle.cycles.specs.Cycles.{cyclesOf, phaseOf, unaligned, carrying, heldMicro}
+use Rattle.cpu.specs.declared.types.Part.the-variants.{Only, Low, High}
 use Rattle.cycles.specs.declared.types.Ask.{Ask}
 use Rattle.cycles.specs.declared.types.Ask.the-variants as ask
 use Rattle.cycles.specs.declared.types.Move.{Move}
 use Rattle.cycles.specs.declared.types.Move.the-variants as move
 use Rattle.cycles.specs.declared.types.Change.{Change}
-use Rattle.cycles.specs.declared.types.Change.the-variants.{Keep, OperateOnly, OperateLow, OperateHigh, PullOnly, PullLow, PullHigh, Apply, Mask, Status, Sign, DirectLow, DirectHigh, MoveByte}
+use Rattle.cycles.specs.declared.types.Change.the-variants.{Keep, Operate, Fill, Apply, Mask, Status, Sign, DirectLow, DirectHigh, MoveByte}
 use Rattle.cycles.specs.declared.types.To.{To}
 use Rattle.cycles.specs.declared.types.To.the-variants as to
 use Rattle.cycles.specs.declared.types.Cycle.{Cycle}
@@ -35,14 +36,14 @@ use Rattle.sheet.proofs.Walk.{and-left, and-right}
 -- ---- changes that keep the index registers and width flags in order: those of a cycle before the last
 abbrev pub calm : Change → Bool
 calm Keep = true
-calm OperateLow = true
-calm PullLow = true
+calm (Operate Low) = true
+calm (Fill Low) = true
 calm Mask = true
 calm DirectLow = true
-calm OperateOnly = false
-calm OperateHigh = false
-calm PullOnly = false
-calm PullHigh = false
+calm (Operate Only) = false
+calm (Operate High) = false
+calm (Fill Only) = false
+calm (Fill High) = false
 calm Apply = false
 calm Status = false
 calm Sign = false
@@ -131,12 +132,12 @@ deafMove move.MoveEnd = false
 
 abbrev pub deafChange : Change → Bool
 deafChange Keep = true
-deafChange OperateOnly = false
-deafChange OperateLow = false
-deafChange OperateHigh = false
-deafChange PullOnly = false
-deafChange PullLow = false
-deafChange PullHigh = false
+deafChange (Operate Only) = false
+deafChange (Operate Low) = false
+deafChange (Operate High) = false
+deafChange (Fill Only) = false
+deafChange (Fill Low) = false
+deafChange (Fill High) = false
 deafChange Apply = false
 deafChange Mask = false
 deafChange Status = false

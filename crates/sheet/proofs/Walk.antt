@@ -21,7 +21,7 @@ use Rattle.cpu.specs.declared.types.Mid.{Mid}
 use Rattle.cpu.specs.declared.types.Regs.{Regs}
 use Rattle.cpu.specs.declared.types.Reg.{Reg}
 use Rattle.cpu.specs.declared.types.Reg.the-variants.{A, X, Y}
-use Rattle.cpu.specs.declared.types.Part.the-variants.{Low}
+use Rattle.cpu.specs.declared.types.Part.the-variants.{Only, Low, High}
 use Rattle.cpu.specs.declared.types.Request.{Request}
 use Rattle.cpu.specs.declared.types.Asked.the-variants.{Ask}
 use Rattle.cpu.specs.declared.types.Answer.the-variants.{Next, Refused}
@@ -32,7 +32,7 @@ use Rattle.opcodes.specs.declared.types.Operation.{Operation}
 use Rattle.opcodes.specs.declared.types.Shape.{Shape}
 use Rattle.cycles.specs.Cycles.{cyclesOf, unaligned, carrying}
 use Rattle.cycles.specs.declared.types.Change.{Change}
-use Rattle.cycles.specs.declared.types.Change.the-variants.{Keep, OperateOnly, OperateLow, OperateHigh, PullOnly, PullLow, PullHigh, Apply, Mask, Status, Sign, DirectLow, DirectHigh, MoveByte}
+use Rattle.cycles.specs.declared.types.Change.the-variants.{Keep, Operate, Fill, Apply, Mask, Status, Sign, DirectLow, DirectHigh, MoveByte}
 use Rattle.cycles.specs.declared.types.Cycle.{Cycle}
 use Rattle.cycles.specs.declared.types.Cycle.the-variants.{Absent, Present}
 use Rattle.cycles.specs.declared.types.Micro.{Micro}
@@ -74,12 +74,12 @@ both-true false b h k = h
 -- ---- changes that keep every width and mode, and D
 abbrev pub steady : Change → Bool
 steady Keep = true
-steady OperateLow = true
-steady PullLow = true
-steady OperateOnly = false
-steady OperateHigh = false
-steady PullOnly = false
-steady PullHigh = false
+steady (Operate Low) = true
+steady (Fill Low) = true
+steady (Operate Only) = false
+steady (Operate High) = false
+steady (Fill Only) = false
+steady (Fill High) = false
 steady Apply = false
 steady Mask = false
 steady Status = false
@@ -171,12 +171,12 @@ module _ (s : Shape) (o : Operation) (cs : List Cycle) where
 
   pub steady-fits : (c : Change) (k : Operation) (r : Record) (b : ℕ) → steady c ≡ true → Fits s o cs (regsOf r) → Fits s o cs (regsAfter c k r b)
   steady-fits Keep k r b e h = h
-  steady-fits OperateLow k r b e h = operate-fits (aluOf k) (regOf k) b (regsOf r) h
-  steady-fits PullLow k r b e h = pull-fits (regOf k) b (regsOf r) h
-  steady-fits OperateOnly k r b e h = absurd (false-true e)
-  steady-fits OperateHigh k r b e h = absurd (false-true e)
-  steady-fits PullOnly k r b e h = absurd (false-true e)
-  steady-fits PullHigh k r b e h = absurd (false-true e)
+  steady-fits (Operate Low) k r b e h = operate-fits (aluOf k) (regOf k) b (regsOf r) h
+  steady-fits (Fill Low) k r b e h = pull-fits (regOf k) b (regsOf r) h
+  steady-fits (Operate Only) k r b e h = absurd (false-true e)
+  steady-fits (Operate High) k r b e h = absurd (false-true e)
+  steady-fits (Fill Only) k r b e h = absurd (false-true e)
+  steady-fits (Fill High) k r b e h = absurd (false-true e)
   steady-fits Apply k r b e h = absurd (false-true e)
   steady-fits Mask k r b e h = absurd (false-true e)
   steady-fits Status k r b e h = absurd (false-true e)

@@ -5,7 +5,8 @@ use borrow.Author.Needs.{needs}
 use Rattle.alu.specs.declared.types.Alu.the-variants.{Cmp, Load}
 use Rattle.cpu.specs.declared.types.Reg.the-variants.{A}
 use Rattle.cpu.specs.declared.types.Source.the-variants.{Register}
-use Rattle.opcodes.specs.Opcodes.{oneBytes, opcodes, decodeOf, oneOf, columnOf, operationOf, indexOf, conditionOf}
+use Rattle.opcodes.specs.Opcodes.{oneBytes, opcodes, decodeOf, oneOf}
+use Rattle.opcodes.specs.Columns.{columnOf, operationOf, indexOf, conditionOf}
 use Rattle.opcodes.specs.declared.types.Op.the-variants.{Unlisted, Listed}
 use Rattle.opcodes.specs.declared.types.Shape.the-variants.{Immediate, Absolute, Direct, StoreAbsolute, StoreDirect, Implied, Branch}
 use Rattle.opcodes.specs.declared.types.Operation.the-variants.{Read, Give, Do, If}
