@@ -58,3 +58,7 @@ stoppedBy (Stop n) = numberOf n
 -- a record that isn't well formed, asked for so many cycles
 abbrev pub malformed : ℕ → Record → Outcome
 malformed b r = outcome (pick (eqb b 0) 0 (numberOf Malformed)) 0 r
+
+-- a run, and the one that goes on where it ended
+abbrev pub joined : End → End → End
+joined e f = record { number = f .number; rec = f .rec; mem = f .mem; lines = e .lines ++ f .lines }

@@ -1,0 +1,41 @@
+-- Two runs in a row are one run of both budgets, where the first isn't refused.
+use Prim.Native.Nat.{ℕ, zero, suc, _+_, _≤_}
+use mathlib.Core.Path.{_≡_, refl, ap, sym, _∙_, subst}
+use mathlib.Core.Bool.{Bool, true, false}
+use mathlib.Core.List.{List, [], _∷_, _++_}
+use native.Mathlib.Omega.{arith}
+use native.Mathlib.Nat.{zero-add, suc-add}
+use lib.Dec.{leb, eqb}
+use lib.ListN.{length}
+use borrow.Author.Tests.{le-leb, leb-true}
+use Rattle.words.specs.Words.{pick}
+use Rattle.cpu.specs.Record.{numberOf}
+use Rattle.cpu.specs.declared.types.Record.{Record}
+use Rattle.cpu.specs.declared.types.Refusal.{Refusal}
+use Rattle.cpu.specs.declared.types.Refusal.the-variants.{Memory, Budget, Room, Malformed, Unlisted, NoCycle, Bank}
+use Rattle.memory.specs.Turns.{cycleOf, storeLine}
+use Rattle.memory.specs.declared.types.Turn.{Turn}
+use Rattle.memory.specs.declared.types.Turn.the-variants.{Done, Stop}
+use Rattle.run.specs.Runs.{End, more, ends, joined, runOf, wholeRun, size, most}
+use Rattle.run.proofs.Laws.{run-done, run-stop, run-none, accepted}
+
+-- a refusal has a number
+pub refusal-numbered : (k : Refusal) → numberOf k ≡ 0 → ⊥
+refusal-numbered Memory e = omega (arith, e)
+refusal-numbered Budget e = omega (arith, e)
+refusal-numbered Room e = omega (arith, e)
+refusal-numbered Malformed e = omega (arith, e)
+refusal-numbered Unlisted e = omega (arith, e)
+refusal-numbered NoCycle e = omega (arith, e)
+refusal-numbered Bank e = omega (arith, e)
+
+-- by what the first cycle comes to; `go` is the law for the cycles after it
+by-turn : (j n : ℕ) (r : Record) (m : List ℕ) (t : Turn) → ((s : Record) (m′ : List ℕ) → runOf j s m′ .number ≡ 0 → runOf (j + n) s m′ ≡ joined (runOf j s m′) (runOf n (runOf j s m′ .rec) (runOf j s m′ .mem))) → cycleOf r m ≡ t → runOf (suc j) r m .number ≡ 0 → runOf (suc j + n) r m ≡ joined (runOf (suc j) r m) (runOf n (runOf (suc j) r m .rec) (runOf (suc j) r m .mem))
+by-turn j n r m (Done l s) go e h =
+    let a = run-done j r s m l e in
+    rw (suc-add j n, run-done (j + n) r s m l e, a) (ap (more l) (go s (storeLine l m) (rw a at h)))
+by-turn j n r m (Stop k) go e h = absurd (refusal-numbered k (rw (run-stop j r m k e) at h))
+
+pub cut : (j n : ℕ) (r : Record) (m : List ℕ) → runOf j r m .number ≡ 0 → runOf (j + n) r m ≡ joined (runOf j r m) (runOf n (runOf j r m .rec) (runOf j r m .mem))
+cut zero n r m h = rw (zero-add n, run-none r m)
+cut (suc j) n r m h = by-turn j n r m (cycleOf r m) (λ s m′ k. cut j n s m′ k) refl h
