@@ -1,0 +1,1 @@
+// The lines of a trace, written into a lent buffer.
