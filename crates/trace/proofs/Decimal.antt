@@ -11,7 +11,7 @@ use lib.ListN.{length, length-append}
 use Rattle.trace.specs.Text.{digitsOf, decimal}
 use Rattle.trace.specs.Places.{digitAt, tens, places}
 
-lt-or-ge : (a b : ℕ) → (a < b) ⊎ (b ≤ a)
+pub lt-or-ge : (a b : ℕ) → (a < b) ⊎ (b ≤ a)
 lt-or-ge a zero = inr zero-le
 lt-or-ge zero (suc b) = inl (omega arith)
 lt-or-ge (suc a) (suc b) = ⊎-elim (λ p. inl (omega arith)) (λ q. inr (omega arith)) (lt-or-ge a b)
@@ -72,6 +72,12 @@ decimal-long (suc k) n h =
     (λ p. omega (arith, more-length n p, decimal-long k (n / 10) (omega arith)))
     (lt-or-ge n 10)
 
+pub width-one : (n : ℕ) → n < 10 → 1 ≡ length (decimal n)
+width-one n h = rw (decimal-one n h)
+
+pub width-more : (k n : ℕ) → tens (suc k) ≤ n → n < tens (suc (suc k)) → suc (suc k) ≡ length (decimal n)
+width-more k n h g = omega (arith, decimal-short (suc k) n g, decimal-long (suc k) n h)
+
 -- even 0 has a digit
 pub decimal-some : (n : ℕ) → 1 ≤ length (decimal n)
 decimal-some n =
@@ -82,11 +88,11 @@ decimal-some n =
 
 -- ---- weight by weight
 
-digit-none : (w n : ℕ) → n < w → digitAt w n ≡ []
+pub digit-none : (w n : ℕ) → n < w → digitAt w n ≡ []
 unfolding digitAt
 digit-none w n h = rw (lt-ltb n w h)
 
-digit-some : (w n : ℕ) → w ≤ n → digitAt w n ≡ (48 + n / w % 10) ∷ []
+pub digit-some : (w n : ℕ) → w ≤ n → digitAt w n ≡ (48 + n / w % 10) ∷ []
 unfolding digitAt
 digit-some w n h = rw (le-ltb n w h)
 
@@ -116,3 +122,10 @@ decimal-places (suc k) n h =
     (λ p. decimal-one n p ∙ low-digit n p ∙ sym (places-small (suc k) n p))
     (λ p. decimal-more n p ∙ rw (decimal-places k (n / 10) (omega arith)) (sym (places-more k n p)))
     (lt-or-ge n 10)
+
+-- a number of 32 bits, and how many digits that makes
+pub decimal-weights : (n : ℕ) → n < 10000000000 → decimal n ≡ digitAt 1000000000 n ++ (digitAt 100000000 n ++ (digitAt 10000000 n ++ (digitAt 1000000 n ++ (digitAt 100000 n ++ (digitAt 10000 n ++ (digitAt 1000 n ++ (digitAt 100 n ++ (digitAt 10 n ++ ((48 + n % 10) ∷ [])))))))))
+decimal-weights n h = decimal-places 9 n h
+
+pub weights-length : (n : ℕ) → n < 10000000000 → length (decimal n) ≡ length (digitAt 1000000000 n) + (length (digitAt 100000000 n) + (length (digitAt 10000000 n) + (length (digitAt 1000000 n) + (length (digitAt 100000 n) + (length (digitAt 10000 n) + (length (digitAt 1000 n) + (length (digitAt 100 n) + (length (digitAt 10 n) + 1))))))))
+weights-length n h = rw (decimal-weights n h) (simp length-append)

@@ -1,8 +1,9 @@
 -- Laws of the trace's text and of writing it piece by piece: what a run that writes a line a cycle leans on.
-use Prim.Native.Nat.{ℕ, zero, suc, _+_, _*_, _≤_, _<_}
+use Prim.Native.Nat.{ℕ, zero, suc, _+_, _*_, _-_, _≤_, _<_}
 use mathlib.Core.Path.{_≡_, refl, sym, ap, _∙_}
 use mathlib.Core.Bool.{Bool, true, false}
 use mathlib.Core.List.{List, [], _∷_, _++_, append-assoc}
+use mathlib.Core.Logic.{⊎-elim}
 use native.Mathlib.Omega.{arith}
 use native.Mathlib.Nat.{add-zero, zero-add}
 use native.Mathlib.Numerals.{add-one}
@@ -13,7 +14,7 @@ use lib.Seq.{sets, sets-eq, length-sets, take-suc, take-length, take-append-seam
 use Rattle.words.specs.Words.{pick}
 use Rattle.cpu.specs.declared.types.Request.{Request}
 use Rattle.trace.specs.Text.{decimal, hex2, hex6, lineText, linesText, header, over, Put, Wrote}
-use Rattle.trace.proofs.Decimal.{decimal-short, decimal-some}
+use Rattle.trace.proofs.Decimal.{lt-or-ge, decimal-short, decimal-some}
 
 -- ---- how long lines are
 
@@ -91,6 +92,17 @@ wrote-front {t} {x = x} w h =
     rw (w .text, sets-eq x t 0 (omega arith), e) (take-append-seam x (drop (0 + length x) t))
 
 -- ---- with room and without
+
+-- the test as the code makes it, without a sum that could wrap
+pub room-none : (len at size : ℕ) → len < size → false ≡ leb (at + size) len
+room-none len at size h = sym (lt-leb (at + size) len (omega arith))
+
+pub room-some : (len at size : ℕ) → size ≤ len → leb at (len - size) ≡ leb (at + size) len
+room-some len at size h =
+    ⊎-elim
+    (λ p. lt-leb at (len - size) p ∙ sym (lt-leb (at + size) len (omega arith)))
+    (λ p. le-leb at (len - size) p ∙ sym (le-leb (at + size) len (omega arith)))
+    (lt-or-ge (len - size) at)
 
 pub put-fits : {t t′ x : List ℕ} {i j : ℕ} → i + length x ≤ length t → Put t t′ i j x → Wrote t t′ i j x
 put-fits h p = record { place = p .place ∙ rw (le-leb _ _ h); text = p .text ∙ rw (le-leb _ _ h) }
