@@ -3,10 +3,11 @@ use Prim.Native.Nat.{ℕ}
 use mathlib.Core.Path.{_≡_, refl}
 use mathlib.Core.Bool.{Bool, true, false}
 use mathlib.Core.List.{List, [], _∷_}
+use lib.Seq.{sets}
 use Rattle.cpu.specs.declared.types.Kind.{Kind}
 use Rattle.cpu.specs.declared.types.Kind.the-variants.{Opcode, Program, Data, Invalid}
 use Rattle.cpu.specs.declared.types.Request.{Request}
-use Rattle.trace.specs.Text.{digitsOf, decimal, hexDigit, hex2, hex6, lineText, linesText, traceText}
+use Rattle.trace.specs.Text.{digitsOf, decimal, hexDigit, hex2, hex6, lineText, linesText, header, traceText, fits}
 
 abbrev line : Kind → (write : Bool) → (addr byte : ℕ) → Request
 line k w a b = record { write = w; kind = k; addr = a; byte = b }
@@ -49,3 +50,17 @@ widest-figure = refl
 pub none-figure : decimal 0 ≡ 48 ∷ []
 unfolding digitsOf decimal
 none-figure = refl
+
+-- six bytes have room for the header at place 0 and not at place 1
+abbrev six : List ℕ
+six = 0 ∷ 0 ∷ 0 ∷ 0 ∷ 0 ∷ 0 ∷ []
+
+pub room-figure : fits six 0 header ≡ true
+room-figure = refl
+
+pub full-figure : fits six 1 header ≡ false
+full-figure = refl
+
+-- what stands before and after a text stays
+pub written-figure : sets (1 ∷ 2 ∷ 3 ∷ 4 ∷ 5 ∷ 6 ∷ 7 ∷ 8 ∷ []) 1 header ≡ 1 ∷ 98 ∷ 117 ∷ 115 ∷ 9 ∷ 49 ∷ 10 ∷ 8 ∷ []
+written-figure = refl

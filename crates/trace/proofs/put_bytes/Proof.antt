@@ -29,16 +29,10 @@ shared-slice-read-text : tie.Need-shared-slice-read-text Inv-loop μ-loop
 shared-slice-read-text c = omega arith
 
 add-text : tie.Need-add-text Inv-loop μ-loop
-add-text c =
-    let s = c .before .before .before .before .before .before .before in
-    let h : s .args .at + length (s .args .src .now) ≤ length (s .args .text .now) = leb-true _ _ (sym (c .before .before .before .before .has-room .ensures) ∙ not-false _ (c .before .before .before .if1 .left)) in
-    omega arith
+add-text c = let t = sym (c .before .before .before .before .has-room .ensures) ∙ not-false _ (c .before .before .before .if1 .left) in omega (arith, leb-true)
 
 slice-write-text : tie.Need-slice-write-text Inv-loop μ-loop
-slice-write-text c =
-    let s = c .before .before .before .before .before .before .before in
-    let h : s .args .at + length (s .args .src .now) ≤ length (s .args .text .now) = leb-true _ _ (sym (c .before .before .before .before .has-room .ensures) ∙ not-false _ (c .before .before .before .if1 .left)) in
-    omega arith
+slice-write-text c = let t = sym (c .before .before .before .before .has-room .ensures) ∙ not-false _ (c .before .before .before .if1 .left) in omega (arith, leb-true)
 
 add-i : tie.Need-add-i Inv-loop μ-loop
 add-i c = omega arith
@@ -50,10 +44,7 @@ loop-again : tie.Need-loop-again Inv-loop μ-loop
 loop-again c = (omega arith, simp length-set (omega arith), wrote-next _ _ _ _ _ (c .before .loop-test .taken) (c .before .before .loop .inv .2))
 
 add-result : tie.Need-add-result Inv-loop μ-loop
-add-result c =
-    let s = c .before .before .before .before .before .before in
-    let h : s .args .at + length (s .args .src .now) ≤ length (s .args .text .now) = leb-true _ _ (sym (c .before .before .before .has-room .ensures) ∙ not-false _ (c .before .before .if1 .left)) in
-    omega arith
+add-result c = let t = sym (c .before .before .before .has-room .ensures) ∙ not-false _ (c .before .before .if1 .left) in omega (arith, leb-true)
 
 same-length : tie.Need-same-length Inv-loop μ-loop
 same-length c = omega arith

@@ -1,9 +1,7 @@
 use borrow.Author.Needs.{needs}
-use Prim.Native.Nat.{_+_, _≤_, _<_}
 use native.Mathlib.Omega.{arith}
 use mathlib.Core.Path.{sym, _∙_}
 use borrow.Author.Tests.{leb-true, leb-false}
-use lib.ListN.{length}
 use Rattle.trace.proofs.Decimal.{decimal-short}
 use Rattle.trace.proofs.Laws.{line-length, wrote-put, full-put}
 use Rattle.trace.proofs.put_line.Statement.{statement}
@@ -22,8 +20,8 @@ write-line-requires : tie.Need-write-line-requires
 write-line-requires c κs =
     let r = c .before .before in
     let s = r .before .before .before in
-    let h : s .args .at + (15 + r .before .width .result) ≤ length (s .args .text .now) = leb-true _ _ (sym (r .has-room .ensures) ∙ c .before .if1 .taken) in
-    omega (arith, r .before .width .ensures, line-length (s .args .n) (s .args .line))
+    let t = sym (r .has-room .ensures) ∙ c .before .if1 .taken in
+    omega (arith, leb-true, r .before .width .ensures, line-length (s .args .n) (s .args .line))
 
 same-length : tie.Need-same-length
 same-length c = search needs
@@ -33,15 +31,15 @@ returns c =
     let w = c .before .before in
     let r = w .before .before .before in
     let s = r .before .before .before in
-    let h : s .args .at + (15 + r .before .width .result) ≤ length (s .args .text .now) = leb-true _ _ (sym (r .has-room .ensures) ∙ w .before .before .if1 .taken) in
-    wrote-put (omega (arith, r .before .width .ensures, line-length (s .args .n) (s .args .line))) (w .write-line .ensures)
+    let t = sym (r .has-room .ensures) ∙ w .before .before .if1 .taken in
+    wrote-put (omega (arith, leb-true, r .before .width .ensures, line-length (s .args .n) (s .args .line))) (w .write-line .ensures)
 
 returns-2 : tie.Need-returns-2
 returns-2 c =
     let r = c .before in
     let s = r .before .before .before in
-    let h : length (s .args .text .now) < s .args .at + (15 + r .before .width .result) = leb-false _ _ (sym (r .has-room .ensures) ∙ c .if1 .left) in
-    full-put (omega (arith, r .before .width .ensures, line-length (s .args .n) (s .args .line)))
+    let t = sym (r .has-room .ensures) ∙ c .if1 .left in
+    full-put (omega (arith, leb-false, r .before .width .ensures, line-length (s .args .n) (s .args .line)))
 
 pub put-line-spec : {M : Type 1} → statement M
 put-line-spec =
