@@ -124,8 +124,15 @@ decimal-places (suc k) n h =
     (lt-or-ge n 10)
 
 -- a number of 32 bits, and how many digits that makes
-pub decimal-weights : (n : ℕ) → n < 10000000000 → decimal n ≡ digitAt 1000000000 n ++ (digitAt 100000000 n ++ (digitAt 10000000 n ++ (digitAt 1000000 n ++ (digitAt 100000 n ++ (digitAt 10000 n ++ (digitAt 1000 n ++ (digitAt 100 n ++ (digitAt 10 n ++ ((48 + n % 10) ∷ [])))))))))
+pub decimal-weights : (n : ℕ) → n < 10000000000 → decimal n ≡
+    digitAt 1000000000 n ++ (digitAt 100000000 n ++ (digitAt 10000000 n
+    ++ (digitAt 1000000 n ++ (digitAt 100000 n ++ (digitAt 10000 n
+    ++ (digitAt 1000 n ++ (digitAt 100 n ++ (digitAt 10 n
+    ++ ((48 + n % 10) ∷ [])))))))))
 decimal-weights n h = decimal-places 9 n h
 
-pub weights-length : (n : ℕ) → n < 10000000000 → length (decimal n) ≡ length (digitAt 1000000000 n) + (length (digitAt 100000000 n) + (length (digitAt 10000000 n) + (length (digitAt 1000000 n) + (length (digitAt 100000 n) + (length (digitAt 10000 n) + (length (digitAt 1000 n) + (length (digitAt 100 n) + (length (digitAt 10 n) + 1))))))))
+pub weights-length : (n : ℕ) → n < 10000000000 → length (decimal n) ≡
+    length (digitAt 1000000000 n) + (length (digitAt 100000000 n) + (length (digitAt 10000000 n)
+    + (length (digitAt 1000000 n) + (length (digitAt 100000 n) + (length (digitAt 10000 n)
+    + (length (digitAt 1000 n) + (length (digitAt 100 n) + (length (digitAt 10 n) + 1))))))))
 weights-length n h = rw (decimal-weights n h) (simp length-append)

@@ -75,7 +75,8 @@ pub wrote-one : (t : List ℕ) (i b : ℕ) → Wrote t (set t i b) i (i + 1) (b 
 wrote-one t i b = record { place = refl; text = refl }
 
 -- the first bytes of s, and then the next
-pub wrote-next : (t t₁ s : List ℕ) (at i : ℕ) → i < length s → Wrote t t₁ at (at + i) (take i s) → Wrote t (set t₁ (at + i) (getD s i 0)) at (at + (i + 1)) (take (i + 1) s)
+pub wrote-next : (t t₁ s : List ℕ) (at i : ℕ) → i < length s
+    → Wrote t t₁ at (at + i) (take i s) → Wrote t (set t₁ (at + i) (getD s i 0)) at (at + (i + 1)) (take (i + 1) s)
 wrote-next t t₁ s at i h w =
     let e : at + (i + 1) ≡ (at + i) + 1 = omega arith in
     rw (e, add-one i, take-suc s i 0 h) (then w (wrote-one t₁ (at + i) (getD s i 0)))
@@ -127,7 +128,8 @@ pub put-length : {t t′ x : List ℕ} {i j : ℕ} → Put t t′ i j x → leng
 put-length {t} {x = x} {i = i} p = ap length (p .text) ∙ picked-length (leb (i + length x) (length t)) t i x
 
 -- two pieces with room for both are one
-pub put-then : {t t₁ t₂ xs ys : List ℕ} {i j k : ℕ} → i + length xs + length ys ≤ length t → Put t t₁ i j xs → Put t₁ t₂ j k ys → Put t t₂ i k (xs ++ ys)
+pub put-then : {t t₁ t₂ xs ys : List ℕ} {i j k : ℕ} → i + length xs + length ys ≤ length t
+    → Put t t₁ i j xs → Put t₁ t₂ j k ys → Put t t₂ i k (xs ++ ys)
 put-then {t} {t₁} {xs = xs} {ys = ys} {i = i} {j = j} h p q =
     let w = put-fits {x = xs} (omega arith) p in
     let v = put-fits {x = ys} (omega (arith, w .place, wrote-length w)) q in
@@ -142,7 +144,8 @@ Rest t₀ p₀ n₀ qs₀ t p n qs = (t′ : List ℕ) (k : ℕ) → Wrote t t�
 pub rest-all : (t : List ℕ) (p n : ℕ) (qs : List Request) → Rest t p n qs t p n qs
 rest-all t p n qs t′ k w = w
 
-pub rest-more : (t₀ t t₁ : List ℕ) (p₀ n₀ p p₁ n : ℕ) (qs₀ qs : List Request) (q : Request) → Rest t₀ p₀ n₀ qs₀ t p n (q ∷ qs) → Wrote t t₁ p p₁ (lineText n q) → Rest t₀ p₀ n₀ qs₀ t₁ p₁ (n + 1) qs
+pub rest-more : (t₀ t t₁ : List ℕ) (p₀ n₀ p p₁ n : ℕ) (qs₀ qs : List Request) (q : Request)
+    → Rest t₀ p₀ n₀ qs₀ t p n (q ∷ qs) → Wrote t t₁ p p₁ (lineText n q) → Rest t₀ p₀ n₀ qs₀ t₁ p₁ (n + 1) qs
 unfolding linesText
 rest-more t₀ t t₁ p₀ n₀ p p₁ n qs₀ qs q f w t′ k v = f t′ k (then w (rw add-one at v))
 
@@ -156,7 +159,8 @@ pub record Lined (t₀ : List ℕ) (p₀ n₀ : ℕ) (qs₀ : List Request) (t t
   pub size : length t₁ ≡ length t
   pub after : p₁ ≤ p + 22
 
-pub rest-line : {t₀ t t₁ : List ℕ} {p₀ n₀ p p₁ n : ℕ} {qs₀ qs : List Request} (q : Request) → n < 10000000 → p + 22 ≤ length t → Rest t₀ p₀ n₀ qs₀ t p n (q ∷ qs) → Put t t₁ p p₁ (lineText n q) → Lined t₀ p₀ n₀ qs₀ t t₁ p p₁ n qs
+pub rest-line : {t₀ t t₁ : List ℕ} {p₀ n₀ p p₁ n : ℕ} {qs₀ qs : List Request} (q : Request) → n < 10000000 → p + 22 ≤ length t
+    → Rest t₀ p₀ n₀ qs₀ t p n (q ∷ qs) → Put t t₁ p p₁ (lineText n q) → Lined t₀ p₀ n₀ qs₀ t t₁ p p₁ n qs
 rest-line {t₀} {t} {t₁} {p₀} {n₀} {p} {p₁} {n} {qs₀} {qs} q h room f u =
     let w = put-fits {x = lineText n q} (omega (arith, line-short n q h)) u in
     record {
@@ -167,7 +171,8 @@ rest-line {t₀} {t} {t₁} {p₀} {n₀} {p} {p₁} {n} {qs₀} {qs} q h room f
 
 -- ---- the header and then all the lines
 
-pub trace-wrote : {t t₀ t₁ : List ℕ} {p₀ p : ℕ} (qs : List Request) → Wrote t t₀ 0 p₀ header → Wrote t₀ t₁ p₀ p (linesText 1 qs) → p ≤ length t → t₁ ≡ over (header ++ linesText 1 qs) t
+pub trace-wrote : {t t₀ t₁ : List ℕ} {p₀ p : ℕ} (qs : List Request)
+    → Wrote t t₀ 0 p₀ header → Wrote t₀ t₁ p₀ p (linesText 1 qs) → p ≤ length t → t₁ ≡ over (header ++ linesText 1 qs) t
 trace-wrote {t} qs h w f =
     let v = then h w in
     v .text ∙ sets-eq (header ++ linesText 1 qs) t 0 (omega (arith, v .place)) ∙ rw zero-add
