@@ -1,0 +1,20 @@
+-- A decimal number by the weights of its digits: what the code writes, one weight after the other.
+-- That this is `decimal` is a law, `decimal-places`.
+use Prim.Native.Nat.{ℕ, zero, suc, _+_, _*_, _/_, _%_}
+use mathlib.Core.List.{List, [], _∷_, _++_}
+use lib.Dec.{ltb}
+use Rattle.words.specs.Words.{pick}
+
+-- the digit of weight w, which a smaller number has not
+unfoldable pub digitAt : (w : ℕ) → ℕ → List ℕ
+digitAt w n = pick (ltb n w) [] ((48 + n / w % 10) ∷ [])
+
+-- ten times itself k times
+abbrev pub tens : ℕ → ℕ
+tens zero = 1
+tens (suc k) = 10 * tens k
+
+-- the digits of the weights from 10 to the k down; that of weight 1 is always there
+abbrev pub places : ℕ → ℕ → List ℕ
+places zero n = (48 + n % 10) ∷ []
+places (suc k) n = digitAt (tens (suc k)) n ++ places k n
