@@ -6,6 +6,7 @@ pub mod Kept
 pub mod Counts
 pub mod Refusals
 pub mod WholeMove
+pub mod Effects
 pub mod Figures
 pub mod Demand1
 pub mod Lengths
