@@ -11,3 +11,4 @@ pub mod Figures
 pub mod Demand1
 pub mod Lengths
 pub mod Moving
+pub mod Boundary
