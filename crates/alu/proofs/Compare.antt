@@ -13,7 +13,7 @@ use Rattle.alu.specs.declared.types.Alu.the-variants.{Cmp, Sbc}
 use Rattle.alu.specs.declared.types.Word.{Word}
 use Rattle.alu.specs.Widths.{chain}
 use Rattle.alu.proofs.CarryLaws.{difference}
-use Rattle.alu.proofs.FlagLaws.{eqb-same, made}
+use Rattle.alu.proofs.FlagLaws.{eqb-same, flag-stays, made}
 use Rattle.alu.proofs.Widths.{sbc-binary, result-zero, result-sign}
 
 -- the flags of a compare that goes on, and those of a difference beside it
@@ -55,9 +55,7 @@ kept = made (operated Cmp) (λ x y. x) refl (λ h k l m s t. refl) (λ first top
 -- and so does V
 same-overflow : (n : ℕ) (first : Bool) (a b : ℕ) (f : Flags) → chain (operated Cmp) n first a b f .flags .overflow ≡ f .overflow
 unfolding cmpByte
-same-overflow zero first a b f = refl
-same-overflow (suc n) first a b f =
-    same-overflow n false (a / 256) (b / 256) (operated Cmp first (eqb n 0) (a % 256) (b % 256) f .flags)
+same-overflow = flag-stays (operated Cmp) (λ g. g .overflow) (λ first top a b f. refl)
 
 -- a difference inside m, with m lent where `t` is false: what it says of the operands
 module _ (m a b w : ℕ) (small : w < m) (fits : b < m) where

@@ -3,7 +3,7 @@ use Prim.Native.Nat.{ℕ, _/_, _%_, _<_}
 use mathlib.Core.Path.{_≡_}
 use mathlib.Core.Bool.{true, false, not}
 use native.Mathlib.Omega.{arith}
-use lib.Dec.{leb}
+use lib.Dec.{T, leb}
 use lib.Bits.{bitAnd, bitOr, bitXor}
 use Rattle.flags.specs.declared.Flags.{Flags}
 use Rattle.alu.specs.Alu.{operatedAt}
@@ -12,7 +12,7 @@ use Rattle.alu.specs.declared.types.Alu.the-variants.{Adc, Sbc, Cmp, And
 use Rattle.alu.specs.declared.types.Word.{Word}
 use Rattle.alu.proofs.At8And16.{lowPart, operated-high, at-8, at-16, cmp-8}
 use Rattle.alu.proofs.BitTest.{Tested, tested, OnlyZero, only-zero}
-use Rattle.alu.proofs.Widths.{signs, adc-overflow, sbc-overflow, and-word, ora-word, eor-word, load-word}
+use Rattle.alu.proofs.Widths.{signs, adc-overflow, sbc-overflow, and-word, ora-word, eor-word, load-word, logical, Leaves, leaves}
 
 -- ---- V of binary sums and differences: operands of one sign, the second one's turned in SBC, and a result of the other
 module _ (a b : ℕ) (f : Flags) (m : f .decimal ≡ false) where
@@ -61,6 +61,10 @@ module _ (a b : ℕ) (f : Flags) where
   pub load-8 : operatedAt Load false a b f .word % 256 ≡ b % 256
   load-8 = at-8 Load a b f (λ r. r .word ≡ b % 256) (load-word 1 true (a % 256) (b % 256) f (omega arith) (omega arith))
 
+  -- these leave V and C
+  pub leaves-8 : (k : Alu) → T (logical k) → Leaves f (lowPart (operatedAt k false a b f))
+  leaves-8 k l = at-8 k a b f (Leaves f) (leaves k l 1 true (a % 256) (b % 256) f)
+
   -- BIT: Z of the AND, N and V bits 7 and 6 of the byte
   pub bit-8 : Tested 0 true (a % 256) (b % 256) f (lowPart (operatedAt Bit false a b f))
   bit-8 = at-8 Bit a b f (Tested 0 true (a % 256) (b % 256) f) (tested 0 true (a % 256) (b % 256) f (omega arith) (omega arith))
@@ -97,6 +101,10 @@ module _ (a b : ℕ) (f : Flags) where
     -- a load takes the word as it is
     pub load-16 : operatedAt Load true a b f .word ≡ b
     load-16 = at-16 Load a b f (λ r. r .word ≡ b) p q (load-word 2 true a b f p q)
+
+    -- these leave V and C
+    pub leaves-16 : (k : Alu) → T (logical k) → Leaves f (operatedAt k true a b f)
+    leaves-16 k l = at-16 k a b f (Leaves f) p q (leaves k l 2 true a b f)
 
     -- BIT: Z of the AND, N and V bits 15 and 14 of the word, and the register stays
     pub bit-16 : Tested 1 true a b f (operatedAt Bit true a b f)
