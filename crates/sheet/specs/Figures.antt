@@ -3,7 +3,7 @@ use mathlib.Core.Path.{_≡_}
 use mathlib.Core.List.{List, [], _∷_, _++_, map}
 use Rattle.sheet.specs.Sheet.{O, P, D, I, W, instruction}
 use Rattle.sheet.specs.EdgeFigures.{modes, fetches, stacks, widths, unlisted, refusals}
-use Rattle.sheet.specs.FigureForm.{Figure, Machine, A, X, Y, S, DP, PC, PBR, DBR, n, v, d, z, c, Cycles, Ups, Downs, Refusal, _is_, Asks, emulation, native8, native16, wideA, wideIndex, row, rows, add, subtract, cycleAfterCycle, gives}
+use Rattle.sheet.specs.FigureForm.{Figure, Machine, A, X, Y, S, DP, PC, PBR, DBR, n, v, d, z, c, Cycles, Ups, Downs, _is_, Asks, emulation, native8, native16, wideA, wideIndex, row, rows, add, subtract, cycleAfterCycle, gives}
 
 unfoldable pub figures : List Figure
 figures =
@@ -192,15 +192,14 @@ figures =
     ∷ row (wideIndex (X is 0x1280 ∷ A is 0x5678 ∷ [])) (0x8A ∷ []) (A is 0x5680 ∷ n is 1 ∷ [])
     ∷ row (wideIndex (X is 0x1234 ∷ [])) (0xDA ∷ [])
     (Asks (O 0x008000 ∷ I 0x008001 ∷ W 0x0001FF 0x12 ∷ W 0x0001FE 0x34 ∷ []) ∷ S is 0x01FD ∷ [])
-    -- a byte that isn't listed: refusal 5
-    ∷ row (native8 []) (0x00 ∷ []) (Refusal is 5 ∷ [])
     ∷ []
 
 -- all that hold of the sheet and of the cycles
 unfoldable pub table : List Figure
 table = figures ++ modes ++ fetches ++ stacks ++ widths ++ unlisted
 
--- ---- the one statement: what the sheet gives for each row is what the row says, and what cycle after cycle gives is too
+-- ---- the one statement: what the sheet gives for each row is what the row says, and what cycle after cycle gives is too; a refusal of a
+-- record as it stands is cycle after cycle's alone
 abbrev pub Gives : Machine → List Figure → Type 0
 Gives via l = map (gives via) l ≡ map (λ (f : Figure). f .says) l
 
