@@ -116,12 +116,12 @@ module _ (a b : ℕ) (f : Flags) (m : f .decimal ≡ true) where
 -- ---- compares, and Z and N of what is written
 module _ (a b : ℕ) (f : Flags) where
   -- CMP compares the low bytes
-  pub cmp-8 : Compared 0 (a % 256) (b % 256) (lowPart (operatedAt Cmp false a b f))
-  cmp-8 = at-8 Cmp a b f (Compared 0 (a % 256) (b % 256)) (compared 0 (a % 256) (b % 256) f (omega arith) (omega arith))
+  pub cmp-8 : Compared 0 (a % 256) (b % 256) f (lowPart (operatedAt Cmp false a b f))
+  cmp-8 = at-8 Cmp a b f (Compared 0 (a % 256) (b % 256) f) (compared 0 (a % 256) (b % 256) f (omega arith) (omega arith))
 
   -- CMP compares the words
-  pub cmp-16 : a < 65536 → b < 65536 → Compared 1 a b (operatedAt Cmp true a b f)
-  cmp-16 p q = at-16 Cmp a b f (Compared 1 a b) p q (compared 1 a b f p q)
+  pub cmp-16 : a < 65536 → b < 65536 → Compared 1 a b f (operatedAt Cmp true a b f)
+  cmp-16 p q = at-16 Cmp a b f (Compared 1 a b f) p q (compared 1 a b f p q)
 
   module _ (k : Alu) (w : T (writes k)) where
     -- Z and N are the low byte's

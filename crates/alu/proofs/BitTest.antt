@@ -1,4 +1,4 @@
--- BIT over n bytes: Z of the AND, N and V the value's top bits, and the register as it was; with an operand in the program Z alone.
+-- BIT over n bytes: Z of the AND, N and V the value's top bits, and the register and C as they were; with an operand in the program Z alone.
 use Prim.Native.Nat.{ℕ, zero, suc, _*_, _/_, _%_, _^_, _<_}
 use mathlib.Core.Path.{_≡_, refl, _∙_}
 use mathlib.Core.Bool.{Bool, false, _&&_, _||_}
@@ -12,7 +12,7 @@ use Rattle.alu.specs.declared.types.Alu.{Alu}
 use Rattle.alu.specs.declared.types.Alu.the-variants.{And, Bit, BitImmediate}
 use Rattle.alu.specs.declared.types.Word.{Word}
 use Rattle.alu.specs.Widths.{chain}
-use Rattle.alu.proofs.FlagLaws.{topOf, top-flag, sign-flag, made}
+use Rattle.alu.proofs.FlagLaws.{topOf, flag-stays, top-flag, sign-flag, made}
 use Rattle.alu.proofs.OneByte.{operated-plain}
 use Rattle.alu.proofs.Widths.{and-word, result-zero}
 
@@ -42,9 +42,10 @@ pub record Tested (n : ℕ) (first : Bool) (a b : ℕ) (f : Flags) (r : Word) : 
   pub zero : r .flags .zero ≡ ((first || f .zero) && eqb (bitAnd a b) 0)
   pub negative : r .flags .negative ≡ leb (128 * 256 ^ n) b
   pub overflow : r .flags .overflow ≡ eqb (b / 256 ^ n / 64 % 2) 1
+  pub carry : r .flags .carry ≡ f .carry
 
 module _ (n : ℕ) (first : Bool) (a b : ℕ) (f : Flags) (p : a < 256 ^ suc n) (q : b < 256 ^ suc n) where
-  -- BIT: the register stays, Z is of the AND, N and V are the value's two top bits
+  -- BIT: the register and C stay, Z is of the AND, N and V are the value's two top bits
   pub tested : Tested n first a b f (chain (operated Bit) (suc n) first a b f)
   unfolding bitByte
   tested = record {
@@ -55,6 +56,7 @@ module _ (n : ℕ) (first : Bool) (a b : ℕ) (f : Flags) (p : a < 256 ^ suc n) 
     overflow =
         rw (← (top-quotient n b q))
         (top-flag (operated Bit) (operated-plain Bit) (λ g. g .overflow) (λ x y z. eqb (y / 64 % 2) 1) (f .decimal) (λ first a b g s t m. refl) n first a b f refl);
+    carry = flag-stays (operated Bit) (λ g. g .carry) (λ first top a b f. refl) (suc n) first a b f;
   }
 
 -- of a value that is tested for Z alone
@@ -63,13 +65,7 @@ pub record OnlyZero (first : Bool) (a b : ℕ) (f : Flags) (r : Word) : Type 0 w
   pub zero : r .flags .zero ≡ ((first || f .zero) && eqb (bitAnd a b) 0)
   pub negative : r .flags .negative ≡ f .negative
   pub overflow : r .flags .overflow ≡ f .overflow
-
-same-signs : (n : ℕ) (first : Bool) (a b : ℕ) (f : Flags)
-    → let r : Word = chain (operated BitImmediate) n first a b f in (r .flags .negative ≡ f .negative) × (r .flags .overflow ≡ f .overflow)
-unfolding bitByte
-same-signs zero first a b f = (refl, refl)
-same-signs (suc n) first a b f =
-    same-signs n false (a / 256) (b / 256) (operated BitImmediate first (eqb n 0) (a % 256) (b % 256) f .flags)
+  pub carry : r .flags .carry ≡ f .carry
 
 -- BIT with its operand in the program changes Z alone
 pub only-zero : (n : ℕ) (first : Bool) (a b : ℕ) (f : Flags) → a < 256 ^ suc n → b < 256 ^ suc n
@@ -78,6 +74,7 @@ unfolding bitByte
 only-zero n first a b f p q = record {
   kept = made (operated BitImmediate) (λ x y. x) refl (λ h k l m s t. refl) (λ first top a b f. refl) (suc n) first a b f p q;
   zero = bit-zero BitImmediate (λ first top a b f. refl) n first a b f p q;
-  negative = same-signs (suc n) first a b f .0;
-  overflow = same-signs (suc n) first a b f .1;
+  negative = flag-stays (operated BitImmediate) (λ g. g .negative) (λ first top a b f. refl) (suc n) first a b f;
+  overflow = flag-stays (operated BitImmediate) (λ g. g .overflow) (λ first top a b f. refl) (suc n) first a b f;
+  carry = flag-stays (operated BitImmediate) (λ g. g .carry) (λ first top a b f. refl) (suc n) first a b f;
 }

@@ -1,4 +1,4 @@
--- CMP over n bytes: the flags of a binary difference that starts with no borrow, and the register as it was.
+-- CMP over n bytes: C, Z and N of a binary difference that starts with no borrow, and the register and V as they were.
 use Prim.Native.Nat.{ℕ, zero, suc, _+_, _-_, _*_, _/_, _%_, _^_, _<_}
 use mathlib.Core.Path.{_≡_, refl, sym, _∙_}
 use mathlib.Core.Bool.{Bool, true, false, not, _||_}
@@ -13,7 +13,7 @@ use Rattle.alu.specs.declared.types.Alu.the-variants.{Cmp, Sbc}
 use Rattle.alu.specs.declared.types.Word.{Word}
 use Rattle.alu.specs.Widths.{chain}
 use Rattle.alu.proofs.CarryLaws.{difference}
-use Rattle.alu.proofs.FlagLaws.{eqb-same, made}
+use Rattle.alu.proofs.FlagLaws.{eqb-same, flag-stays, made}
 use Rattle.alu.proofs.Widths.{sbc-binary, result-zero, result-sign}
 
 -- the flags of a compare that goes on, and those of a difference beside it
@@ -52,6 +52,11 @@ kept : (n : ℕ) (first : Bool) (a b : ℕ) (f : Flags) → a < 256 ^ n → b < 
 unfolding cmpByte
 kept = made (operated Cmp) (λ x y. x) refl (λ h k l m s t. refl) (λ first top a b f. refl)
 
+-- and so does V
+same-overflow : (n : ℕ) (first : Bool) (a b : ℕ) (f : Flags) → chain (operated Cmp) n first a b f .flags .overflow ≡ f .overflow
+unfolding cmpByte
+same-overflow = flag-stays (operated Cmp) (λ g. g .overflow) (λ first top a b f. refl)
+
 -- a difference inside m, with m lent where `t` is false: what it says of the operands
 module _ (m a b w : ℕ) (small : w < m) (fits : b < m) where
   no-borrow : (t : Bool) → w + b ≡ a + m * bit (not t) → t ≡ leb b a
@@ -63,14 +68,15 @@ module _ (m a b w : ℕ) (small : w < m) (fits : b < m) where
   no-difference false e p = eqb-same w 0 a b (omega arith)
 
 -- of two words that are compared
-pub record Compared (n a b : ℕ) (r : Word) : Type 0 where
+pub record Compared (n a b : ℕ) (f : Flags) (r : Word) : Type 0 where
   pub kept : r .word ≡ a
   pub carry : r .flags .carry ≡ leb b a
   pub zero : r .flags .zero ≡ eqb a b
   pub negative : r .flags .negative ≡ leb (128 * 256 ^ n) ((a + (256 ^ suc n - b)) % 256 ^ suc n)
+  pub overflow : r .flags .overflow ≡ f .overflow
 
--- CMP: C says that the register is not below the value, Z that they are equal, N is the difference's top bit, and the register stays
-pub compared : (n a b : ℕ) (f : Flags) → a < 256 ^ suc n → b < 256 ^ suc n → Compared n a b (chain (operated Cmp) (suc n) true a b f)
+-- CMP: C says that the register is not below the value, Z that they are equal, N is the difference's top bit; the register and V stay
+pub compared : (n a b : ℕ) (f : Flags) → a < 256 ^ suc n → b < 256 ^ suc n → Compared n a b f (chain (operated Cmp) (suc n) true a b f)
 compared n a b f p q =
     let g : Flags = setID (setNVZC f (f .negative) (f .overflow) (f .zero) true) (f .interruptdisable) false in
     let d : Word = chain (operated Sbc) (suc n) true a b g in
@@ -87,4 +93,5 @@ compared n a b f p q =
       negative =
           rw (difference (256 ^ suc n) a b (d .word) (d .flags .carry) (t .small) (omega arith) e)
           (sym (same .negative) ∙ result-sign Sbc tt n true a b g);
+      overflow = same-overflow (suc n) true a b f;
     }

@@ -53,6 +53,12 @@ top-bit (suc n) a p =
     ∙ leb-same (128 * 256 ^ n) (a / 256) (128 * 256 ^ suc n) a (rw pow-succ' (omega arith)) (rw pow-succ' (omega arith))
 
 module _ (byte : (first top : Bool) → (a b : ℕ) → Flags → Byte) where
+  -- a flag that every byte leaves as it was stays
+  module _ (flag : Flags → Bool) (law : (first top : Bool) (a b : ℕ) (f : Flags) → flag (byte first top a b f .flags) ≡ flag f) where
+    pub flag-stays : (n : ℕ) (first : Bool) (a b : ℕ) (f : Flags) → flag (chain byte n first a b f .flags) ≡ flag f
+    flag-stays zero first a b f = refl
+    flag-stays (suc n) first a b f = flag-stays n false (a / 256) (b / 256) _ ∙ law first (eqb n 0) (a % 256) (b % 256) f
+
   module _ (plain : Plain byte) where
     -- n bytes are below 256^n
     pub chain-small : (n : ℕ) (first : Bool) (a b : ℕ) (f : Flags) → chain byte n first a b f .word < 256 ^ n

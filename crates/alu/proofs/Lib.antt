@@ -3,6 +3,7 @@ pub mod BitTest
 pub mod CarryLaws
 pub mod Compare
 pub mod FlagLaws
+pub mod LogicAt8And16
 pub mod OneByte
 pub mod Shifting
 pub mod ShiftsAt8And16

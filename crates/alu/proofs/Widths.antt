@@ -6,19 +6,20 @@ use native.Mathlib.Omega.{arith}
 use lib.Dec.{T, eqb, leb}
 use lib.Bits.{bitAnd, bitOr, bitXor, and-block, or-block, xor-block}
 use Rattle.words.specs.Words.{bit}
+use Rattle.flags.specs.Flags.{setNVZC}
 use Rattle.flags.specs.declared.Flags.{Flags}
 use Rattle.adder.specs.Adder.{adcOf, sbcOf, adcBinary}
 use Rattle.adder.specs.Digits.{Pair, valueOf, Digits}
 use Rattle.adder.proofs.BinaryLaws.{adc-adds, sbc-takes, sign-complement}
 use Rattle.adder.proofs.DigitLaws.{adc-digits, sbc-digits}
-use Rattle.alu.specs.Alu.{adcByte, sbcByte, andByte, oraByte, eorByte, loadByte, summed, operated}
+use Rattle.alu.specs.Alu.{adcByte, sbcByte, andByte, oraByte, eorByte, loadByte, nz, summed, operated}
 use Rattle.alu.specs.declared.types.Alu.{Alu}
-use Rattle.alu.specs.declared.types.Alu.the-variants.{Adc, Sbc, And, Ora, Eor, Load}
+use Rattle.alu.specs.declared.types.Alu.the-variants.{Adc, Sbc, Cmp, And, Ora, Eor, Bit, BitImmediate, Load}
 use Rattle.alu.specs.declared.types.Byte.{Byte}
 use Rattle.alu.specs.declared.types.Word.{Word}
 use Rattle.alu.specs.Widths.{chain}
 use Rattle.alu.proofs.CarryLaws.{Equation, Rule, OfByte, OfBytes, carried, Any, itself, Binary, binary}
-use Rattle.alu.proofs.FlagLaws.{top-bit, chain-small, top-flag, sign-flag, zero-flag, made}
+use Rattle.alu.proofs.FlagLaws.{flag-stays, top-bit, chain-small, top-flag, sign-flag, zero-flag, made}
 use Rattle.alu.proofs.OneByte.{operated-small, operated-plain, writes, tells}
 
 -- a sum: the carry is what the bytes can't hold
@@ -148,3 +149,38 @@ module _ (n : ℕ) (first : Bool) (a b : ℕ) (f : Flags) (p : a < 256 ^ n) (q :
   pub load-word : chain (operated Load) n first a b f .word ≡ b
   unfolding loadByte
   load-word = made (operated Load) (λ x y. y) refl (λ h k l m s t. refl) (λ first top a b f. refl) n first a b f p q
+
+-- they leave V and C
+abbrev pub logical : Alu → Bool
+logical Adc = false
+logical Sbc = false
+logical Cmp = false
+logical And = true
+logical Ora = true
+logical Eor = true
+logical Bit = false
+logical BitImmediate = false
+logical Load = true
+
+pub record Leaves (f : Flags) (r : Word) : Type 0 where
+  pub overflow : r .flags .overflow ≡ f .overflow
+  pub carry : r .flags .carry ≡ f .carry
+
+byte-leaves : (k : Alu) → T (logical k) → (flag : Flags → Bool) → ((g : Flags) (n z : Bool) → flag (setNVZC g n (g .overflow) z (g .carry)) ≡ flag g)
+    → (first top : Bool) (a b : ℕ) (f : Flags) → flag (operated k first top a b f .flags) ≡ flag f
+unfolding andByte oraByte eorByte loadByte nz
+byte-leaves And l flag law first top a b f = law f _ _
+byte-leaves Ora l flag law first top a b f = law f _ _
+byte-leaves Eor l flag law first top a b f = law f _ _
+byte-leaves Load l flag law first top a b f = law f _ _
+byte-leaves Adc l flag law first top a b f = absurd l
+byte-leaves Sbc l flag law first top a b f = absurd l
+byte-leaves Cmp l flag law first top a b f = absurd l
+byte-leaves Bit l flag law first top a b f = absurd l
+byte-leaves BitImmediate l flag law first top a b f = absurd l
+
+pub leaves : (k : Alu) → T (logical k) → (n : ℕ) (first : Bool) (a b : ℕ) (f : Flags) → Leaves f (chain (operated k) n first a b f)
+leaves k l n first a b f = record {
+  overflow = flag-stays (operated k) (λ g. g .overflow) (byte-leaves k l (λ g. g .overflow) (λ g n z. refl)) n first a b f;
+  carry = flag-stays (operated k) (λ g. g .carry) (byte-leaves k l (λ g. g .carry) (λ g n z. refl)) n first a b f;
+}

@@ -1,4 +1,5 @@
--- Demand 1: any record and any answered byte is accepted, or refused by a number of document 01's list; no caller checks first.
+-- Demand 1: any record asks, and any record and answered byte is accepted, or it is refused by a number of document 01's list; no caller
+-- checks first.
 -- What a refusal is given for stands in Refusals; here: the two entries refuse alike, and after a write the byte is ignored.
 use Prim.Native.Nat.{ℕ, _≤_}
 use mathlib.Core.Path.{_≡_, refl, sym, ap, _∙_}
@@ -7,9 +8,12 @@ use Rattle.cpu.specs.Record.{numberOf}
 use Rattle.cpu.specs.declared.types.Record.{Record}
 use Rattle.cpu.specs.declared.types.Refusal.{Refusal}
 use Rattle.cpu.specs.declared.types.Request.{Request}
+use Rattle.cpu.specs.declared.types.Asked.{Asked}
 use Rattle.cpu.specs.declared.types.Asked.the-variants.{Ask, No}
 use Rattle.cpu.specs.declared.types.Answer.{Answer}
 use Rattle.cpu.specs.declared.types.Answer.the-variants.{Next, Refused}
+use Rattle.opcodes.specs.Opcodes.{decodeOf}
+use Rattle.opcodes.specs.declared.types.Op.{Op}
 use Rattle.opcodes.specs.declared.types.Operation.{Operation}
 use Rattle.cpu.specs.declared.types.Part.the-variants.{Only, Low, High}
 use Rattle.cycles.specs.declared.types.Ask.{Ask as Asks}
@@ -27,7 +31,7 @@ use Rattle.act.specs.Act.{midAfter, regsAfter, wayOf, actOf}
 use Rattle.step.specs.Cycle.{microOf, askedBy, answeredBy, requestOf, answerOf}
 use Rattle.sheet.proofs.Walk.{and-left, and-right, false-true}
 use Rattle.sheet.proofs.Rows.{writing, deafMove, deafChange, deafTo, fine, silent, inOrder, micro-in-order}
-use Rattle.sheet.proofs.Refusals.{answer-numbers}
+use Rattle.sheet.proofs.Refusals.{request-numbers, answer-numbers}
 
 -- ---- accepted, or refused by 4, 5 or 6
 pub data Outcome (a : Answer) : Type 0 where
@@ -41,6 +45,18 @@ outcome r b (Refused n) e = refused n refl (answer-numbers r b n e .0) (answer-n
 -- Demand 1, for a cycle.
 pub demand-1 : (r : Record) (b : ℕ) → Outcome (answerOf r b)
 demand-1 r b = outcome r b (answerOf r b) refl
+
+-- and for its request: asked, or refused by 4, 5 or 6
+pub data Question (a : Asked) : Type 0 where
+  asked : (q : Request) → a ≡ Ask q → Question a
+  declined : (n : Refusal) → a ≡ No n → 4 ≤ numberOf n → numberOf n ≤ 6 → Question a
+
+question : (r : Record) (a : Asked) → requestOf r ≡ a → Question a
+question r (Ask q) e = asked q refl
+question r (No n) e = declined n refl (request-numbers r n e .0) (request-numbers r n e .1)
+
+pub demand-1-request : (r : Record) → Question (requestOf r)
+demand-1-request r = question r (requestOf r) refl
 
 -- ---- what the request refuses, the answer refuses, whatever the byte
 refused-by : (m : Micro) (r : Record) (b : ℕ) (n : Refusal) → askedBy m r ≡ No n → answeredBy m r b ≡ Refused n
@@ -169,12 +185,13 @@ module _ (r : Record) (b c : ℕ) where
   written : {p q : Request} → Ask p ≡ Ask q → q .write ≡ true → p .write ≡ true
   written {p} {q} e w = let same : p ≡ q = cc in ap (λ (x : Request). x .write) same ∙ w
 
-  micro-ignores : (m : Micro) (q : Request) → inOrder m ≡ true → askedBy m r ≡ Ask q → q .write ≡ true → answeredBy m r b ≡ answeredBy m r c
-  micro-ignores (Refuse n) q i e w = refl
-  micro-ignores Fetch q i e w = absurd (false-true (written e w))
-  micro-ignores (Held p m k t o) q i e w =
-      ap Next (held-ignores p m k t o (and-right (fine t k) (silent p m k t) i) (sym (writes-so p o r) ∙ written e w))
+  micro-ignores : (k : Op) (m : Micro) (q : Request) → inOrder k m ≡ true → askedBy m r ≡ Ask q → q .write ≡ true → answeredBy m r b ≡ answeredBy m r c
+  micro-ignores l (Refuse n) q i e w = refl
+  micro-ignores l Fetch q i e w = absurd (false-true (written e w))
+  micro-ignores l (Held p m k t o) q i e w =
+      let f : (fine t k && silent p m k t) ≡ true = and-left _ _ i in
+      ap Next (held-ignores p m k t o (and-right (fine t k) (silent p m k t) f) (sym (writes-so p o r) ∙ written e w))
 
 pub write-ignores : (r : Record) (b c : ℕ) (q : Request) → requestOf r ≡ Ask q → q .write ≡ true → answerOf r b ≡ answerOf r c
 unfolding requestOf answerOf
-write-ignores r b c q e w = micro-ignores r b c (microOf r) q (micro-in-order r) e w
+write-ignores r b c q e w = micro-ignores r b c (decodeOf (r .ir)) (microOf r) q (micro-in-order r) e w

@@ -1,4 +1,4 @@
--- Well-formedness is kept: from any well-formed record an accepted cycle gives a well-formed record.
+-- Well-formedness is kept: an accepted cycle gives a well-formed record. Only a well-formed one is accepted at all, so nothing is asked of it.
 -- A record is made in two ways only, under way and ended.
 use Prim.Native.Nat.{ℕ, _+_, _/_, _%_}
 use native.Mathlib.Omega.{arith}
@@ -11,6 +11,7 @@ use Rattle.cpu.specs.Record.{boundary, narrowed, wellFormed, midOf, regsOf, end
 use Rattle.cpu.specs.declared.types.Record.{Record}
 use Rattle.cpu.specs.declared.types.Regs.{Regs}
 use Rattle.cpu.specs.declared.types.Mid.{Mid}
+use Rattle.cpu.specs.declared.types.Refusal.the-variants.{Malformed}
 use Rattle.cpu.specs.declared.types.Answer.{Answer}
 use Rattle.cpu.specs.declared.types.Answer.the-variants.{Next, Refused}
 use Rattle.opcodes.specs.Opcodes.{decodeOf, condIn, flagIn}
@@ -116,12 +117,23 @@ well-begun : (o : Op) (r : Record) (b : ℕ) → narrowed (r .flags) (r .x) (r .
 well-begun op.Unlisted r b h = tt
 well-begun (op.Listed s o) r b h = well-under-way b 0 (r .pbr) (regsOf r) (past (midOf r)) h
 
-well-answered : (m : Micro) (r : Record) (b : ℕ) → inOrder m ≡ true → narrowed (r .flags) (r .x) (r .y) ≡ true → Well (answeredBy m r b)
-well-answered (Refuse n) r b e h = tt
-well-answered Fetch r b e h = well-begun (decodeOf b) r b h
-well-answered (Held q m c t o) r b e h = well-arrived (wayOf t o r b) c o r b (midAfter m o r b) (fine-leads t c o r b (and-left (fine t c) (silent q m c t) e)) h
+well-answered : (k : Op) (m : Micro) (r : Record) (b : ℕ) → inOrder k m ≡ true → narrowed (r .flags) (r .x) (r .y) ≡ true → Well (answeredBy m r b)
+well-answered k (Refuse n) r b e h = tt
+well-answered k Fetch r b e h = well-begun (decodeOf b) r b h
+well-answered k (Held q m c t o) r b e h =
+    let f : (fine t c && silent q m c t) ≡ true = and-left _ _ e in
+    well-arrived (wayOf t o r b) c o r b (midAfter m o r b) (fine-leads t c o r b (and-left (fine t c) (silent q m c t) f)) h
 
--- A record reached by an answered cycle from a well-formed one is well formed.
-pub kept : (r s : Record) (b : ℕ) → wellFormed r ≡ true → answerOf r b ≡ Next s → wellFormed s ≡ true
+-- a record that isn't well formed is refused
+well-before : (r s : Record) (b : ℕ) → answerOf r b ≡ Next s → wellFormed r ≡ true
+unfolding answerOf microOf
+well-before r s b e = go (wellFormed r) refl
+  where
+    go : (w : Bool) → wellFormed r ≡ w → w ≡ true
+    go true i = refl
+    go false i = let z : Refused Malformed ≡ Next s = rw i at e in cc
+
+-- A record reached by an answered cycle is well formed, from whatever record.
+pub kept : (r s : Record) (b : ℕ) → answerOf r b ≡ Next s → wellFormed s ≡ true
 unfolding answerOf wellFormed
-kept r s b w e = subst Well e (well-answered (microOf r) r b (micro-in-order r) (and-left _ _ w))
+kept r s b e = subst Well e (well-answered (decodeOf (r .ir)) (microOf r) r b (micro-in-order r) (and-left _ _ (well-before r s b e)))

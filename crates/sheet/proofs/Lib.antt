@@ -6,7 +6,9 @@ pub mod Kept
 pub mod Counts
 pub mod Refusals
 pub mod WholeMove
+pub mod Effects
 pub mod Figures
 pub mod Demand1
 pub mod Lengths
 pub mod Moving
+pub mod Boundary

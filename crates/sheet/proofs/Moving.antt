@@ -14,7 +14,7 @@ use Rattle.opcodes.specs.declared.types.Shape.{Shape}
 use Rattle.opcodes.specs.declared.types.Shape.the-variants as shape
 use Rattle.sheet.proofs.Walk.{false-true}
 
-abbrev moving : Shape → Bool
+abbrev pub moving : Shape → Bool
 moving shape.Immediate = false
 moving shape.Absolute = false
 moving shape.Direct = false

@@ -1,5 +1,5 @@
 -- What holds of every row of every shape's list, by one test that computes: a cycle that may go on keeps the index registers and
--- width flags in order, and a cycle that writes doesn't look at the byte.
+-- width flags in order, a cycle that writes doesn't look at the byte, and one after which the opcode is read again is a move's.
 use Prim.Native.Nat.{ℕ, zero, suc}
 use mathlib.Core.Path.{_≡_, refl}
 use mathlib.Core.Bool.{Bool, true, false, _&&_}
@@ -32,6 +32,7 @@ use Rattle.cycles.specs.declared.types.Micro.{Micro}
 use Rattle.cycles.specs.declared.types.Micro.the-variants.{Refuse, Fetch, Held}
 use Rattle.step.specs.Cycle.{microOf}
 use Rattle.sheet.proofs.Walk.{and-left, and-right}
+use Rattle.sheet.proofs.Moving.{moving, isMoving}
 
 -- ---- changes that keep the index registers and width flags in order: those of a cycle before the last
 abbrev pub calm : Change → Bool
@@ -158,21 +159,31 @@ deafTo to.Moved = false
 abbrev pub silent : Ask → Move → Change → To → Bool
 silent q m c t = implied (writing q) (deafMove m && (deafChange c && deafTo t))
 
+-- ---- a cycle after which the opcode may be read again
+abbrev pub again : To → Bool
+again to.On = false
+again to.End = false
+again to.EndByte = false
+again to.EndBank = false
+again to.Taken = false
+again to.Crossed = false
+again to.Moved = true
+
 -- ---- so it is in every list
-abbrev orderly : Cycle → Bool
-orderly Absent = true
-orderly (Present q m c t) = fine t c && silent q m c t
+abbrev orderly : Shape → Cycle → Bool
+orderly s Absent = true
+orderly s (Present q m c t) = (fine t c && silent q m c t) && implied (again t) (moving s)
 
-abbrev allOrderly : List Cycle → Bool
-allOrderly [] = true
-allOrderly (x ∷ cs) = orderly x && allOrderly cs
+abbrev allOrderly : Shape → List Cycle → Bool
+allOrderly s [] = true
+allOrderly s (x ∷ cs) = orderly s x && allOrderly s cs
 
-orderly-at : (cs : List Cycle) (n : ℕ) → allOrderly cs ≡ true → orderly (getD cs n Absent) ≡ true
-orderly-at [] n h = refl
-orderly-at (x ∷ cs) zero h = and-left (orderly x) (allOrderly cs) h
-orderly-at (x ∷ cs) (suc n) h = orderly-at cs n (and-right (orderly x) (allOrderly cs) h)
+orderly-at : (s : Shape) (cs : List Cycle) (n : ℕ) → allOrderly s cs ≡ true → orderly s (getD cs n Absent) ≡ true
+orderly-at s [] n h = refl
+orderly-at s (x ∷ cs) zero h = and-left (orderly s x) (allOrderly s cs) h
+orderly-at s (x ∷ cs) (suc n) h = orderly-at s cs n (and-right (orderly s x) (allOrderly s cs) h)
 
-lists-orderly : (s : Shape) (w d e : Bool) → allOrderly (cyclesOf s w d e) ≡ true
+lists-orderly : (s : Shape) (w d e : Bool) → allOrderly s (cyclesOf s w d e) ≡ true
 lists-orderly shape.Immediate true d e = refl
 lists-orderly shape.Immediate false d e = refl
 lists-orderly shape.Absolute true d e = refl
@@ -217,32 +228,32 @@ lists-orderly shape.Branch w d false = refl
 lists-orderly shape.BranchLong w d e = refl
 lists-orderly shape.Move w d e = refl
 
-phase-orderly : (s : Shape) (w d e : Bool) (tcu : ℕ) → orderly (phaseOf s w d e tcu) ≡ true
-phase-orderly s w d e tcu = orderly-at (cyclesOf s w d e) tcu (lists-orderly s w d e)
+phase-orderly : (s : Shape) (w d e : Bool) (tcu : ℕ) → orderly s (phaseOf s w d e tcu) ≡ true
+phase-orderly s w d e tcu = orderly-at s (cyclesOf s w d e) tcu (lists-orderly s w d e)
 
--- ---- so is every cycle that a record may come to
-abbrev pub inOrder : Micro → Bool
-inOrder (Refuse n) = true
-inOrder Fetch = true
-inOrder (Held q m c t o) = fine t c && silent q m c t
+-- ---- so is every cycle that a record may come to, which holds the opcode k
+abbrev pub inOrder : Op → Micro → Bool
+inOrder k (Refuse n) = true
+inOrder k Fetch = true
+inOrder k (Held q m c t o) = (fine t c && silent q m c t) && implied (again t) (isMoving k)
 
-carrying-in-order : (o : Operation) (x : Cycle) → orderly x ≡ true → inOrder (carrying o x) ≡ true
-carrying-in-order o Absent h = refl
-carrying-in-order o (Present q m c t) h = h
+carrying-in-order : (s : Shape) (o : Operation) (x : Cycle) → orderly s x ≡ true → inOrder (op.Listed s o) (carrying o x) ≡ true
+carrying-in-order s o Absent h = refl
+carrying-in-order s o (Present q m c t) h = h
 
-held-in-order : (o : Op) (f : Flags) (d tcu : ℕ) → inOrder (heldMicro o f d tcu) ≡ true
+held-in-order : (k : Op) (f : Flags) (d tcu : ℕ) → inOrder k (heldMicro k f d tcu) ≡ true
 held-in-order op.Unlisted f d tcu = refl
 held-in-order (op.Listed s o) f d tcu =
     let w : Bool = wideOf o (f .memsel) (f .indexsel) in
-    carrying-in-order o (phaseOf s w (unaligned d) (f .emulation) tcu) (phase-orderly s w (unaligned d) (f .emulation) tcu)
+    carrying-in-order s o (phaseOf s w (unaligned d) (f .emulation) tcu) (phase-orderly s w (unaligned d) (f .emulation) tcu)
 
-picked-in-order : (w h : Bool) (m : Micro) → inOrder m ≡ true → inOrder (pick w (pick h m Fetch) (Refuse Malformed)) ≡ true
-picked-in-order true true m e = e
-picked-in-order true false m e = refl
-picked-in-order false h m e = refl
+picked-in-order : (k : Op) (w h : Bool) (m : Micro) → inOrder k m ≡ true → inOrder k (pick w (pick h m Fetch) (Refuse Malformed)) ≡ true
+picked-in-order k true true m e = e
+picked-in-order k true false m e = refl
+picked-in-order k false h m e = refl
 
-pub micro-in-order : (r : Record) → inOrder (microOf r) ≡ true
+pub micro-in-order : (r : Record) → inOrder (decodeOf (r .ir)) (microOf r) ≡ true
 unfolding microOf
 micro-in-order r =
-    picked-in-order (wellFormed r) (r .held) (heldMicro (decodeOf (r .ir)) (r .flags) (r .d) (r .tcu))
+    picked-in-order (decodeOf (r .ir)) (wellFormed r) (r .held) (heldMicro (decodeOf (r .ir)) (r .flags) (r .d) (r .tcu))
     (held-in-order (decodeOf (r .ir)) (r .flags) (r .d) (r .tcu))

@@ -44,7 +44,7 @@ use Rattle.step.specs.Cycle.{microOf, askedBy, answeredBy, requestOf, answerOf}
 use Rattle.sheet.specs.Run.{Ran, only, also, after, later, run}
 
 -- ---- a record under way is well formed where its index registers and width flags are
-not-zero : (n : ℕ) → eqb (suc n) 0 ≡ false
+pub not-zero : (n : ℕ) → eqb (suc n) 0 ≡ false
 not-zero n = ne-eqb (suc n) 0 (λ (h : suc n ≡ 0). omega arith)
 
 no-boundary : (a c : Bool) → implied (a && false) c ≡ true

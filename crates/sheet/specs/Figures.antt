@@ -1,200 +1,9 @@
--- Document 01's farmyard figures that are to be proved, and some of our own, as one table.
--- A row reads: the start, the bytes that the bus answers cycle by cycle, then what must be seen: registers and flags after the
--- instruction, how many cycles it took, what it asked of the bus.
-use Prim.Native.Nat.{ℕ, _+_}
+-- Document 01's farmyard figures that are to be proved, and some of our own, as one table; FigureForm says how a row is read.
 use mathlib.Core.Path.{_≡_}
-use mathlib.Core.Bool.{Bool, true, false, not, _&&_}
 use mathlib.Core.List.{List, [], _∷_, _++_, map}
-use lib.Dec.{eqb}
-use lib.ListN.{length, getD}
-use Rattle.words.specs.Words.{pick, bit}
-use Rattle.cpu.specs.Record.{numberOf}
-use Rattle.cpu.specs.declared.types.Record.{Record}
-use Rattle.cpu.specs.declared.types.Request.{Request}
-use Rattle.cpu.specs.declared.types.Answer.{Answer}
-use Rattle.cpu.specs.declared.types.Answer.the-variants.{Next, Refused}
-use Rattle.sheet.specs.Run.{Ran, run}
 use Rattle.sheet.specs.Sheet.{O, P, D, I, W, instruction}
-
-infix 70 _is_
--- ---- what a row can name
-
--- the registers, DP being the direct register; the flags by their letters in the status register, d being decimal; the number
--- of cycles; wraps up, each an ADC # that ended with carry set, and wraps down, each an SBC # that ended with carry clear; the
--- refusal's number, which is seen in place of whatever a row says where it came to a refusal
-pub data Name : Type 0 where
-  A X Y S DP PC PBR DBR : Name
-  n v d z c : Name
-  Cycles Ups Downs Refusal : Name
-
--- a name and its value, a flag's being 0 or 1; or all that was asked of the bus, in order: O an opcode, P a program byte,
--- D data, I an internal cycle, W a byte written
-pub data Told : Type 0 where
-  _is_ : Name → ℕ → Told
-  Asks : List Request → Told
-
-pub record Figure : Type 0 where
-  pub start : Record
-  pub answers : List (List ℕ)
-  pub says : List Told
-
--- ---- a start: what isn't told is 0, but S is 01FF and PC is 8000
-abbrev pub placeOf : Name → ℕ
-placeOf A = 0
-placeOf X = 1
-placeOf Y = 2
-placeOf S = 3
-placeOf DP = 4
-placeOf PC = 5
-placeOf PBR = 6
-placeOf DBR = 7
-placeOf n = 8
-placeOf v = 9
-placeOf d = 10
-placeOf z = 11
-placeOf c = 12
-placeOf Cycles = 13
-placeOf Ups = 14
-placeOf Downs = 15
-placeOf Refusal = 16
-
-abbrev pub told : Name → (other : ℕ) → List Told → ℕ
-told k other [] = other
-told k other ((j is w) ∷ l) = pick (eqb (placeOf j) (placeOf k)) w (told k other l)
-told k other (Asks q ∷ l) = told k other l
-
-abbrev pub raised : Name → List Told → Bool
-raised k l = eqb (told k 0 l) 1
-
--- m: the accumulator is 8 bits wide; x: the index registers are
-abbrev pub start : (emulation m x : Bool) → List Told → Record
-start emulation m x l = record {
-  a = told A 0 l;
-  x = told X 0 l;
-  y = told Y 0 l;
-  s = told S 0x01FF l;
-  d = told DP 0 l;
-  pc = told PC 0x8000 l;
-  pbr = told PBR 0 l;
-  dbr = told DBR 0 l;
-  flags = record {
-    carry = raised c l;
-    zero = raised z l;
-    interruptdisable = false;
-    decimal = raised d l;
-    indexsel = x;
-    memsel = m;
-    overflow = raised v l;
-    negative = raised n l;
-    emulation = emulation;
-  };
-  held = false;
-  ir = 0;
-  tcu = 0;
-  tempaddr = 0;
-  tempdata = 0;
-  tempbank = 0;
-}
-
-abbrev pub emulation : List Told → Record
-emulation l = start true true true l
-
-abbrev pub native8 : List Told → Record
-native8 l = start false true true l
-
-abbrev pub native16 : List Told → Record
-native16 l = start false false false l
-
--- one wide, the other not
-abbrev pub wideA : List Told → Record
-wideA l = start false false true l
-
-abbrev pub wideIndex : List Told → Record
-wideIndex l = start false true false l
-
--- ---- a row's instructions, one after the other, on a machine: the sheet's table, or cycle after cycle
-abbrev pub Machine : Type 0
-Machine = Record → (ℕ → ℕ) → Ran
-
-abbrev pub cycleAfterCycle : Machine
-cycleAfterCycle r b = run 8 b r
-
-pub record Seen : Type 0 where
-  pub asked : List Request
-  pub out : Answer
-  pub ups : ℕ
-  pub downs : ℕ
-
-abbrev pub carryAfter : Answer → Bool
-carryAfter (Next r) = r .flags .carry
-carryAfter (Refused k) = false
-
-abbrev pub joined : (opcode : ℕ) → Seen → Ran → Seen
-joined opcode t u = record {
-  asked = t .asked ++ u .requests;
-  out = u .out;
-  ups = t .ups + bit (eqb opcode 0x69 && carryAfter (u .out));
-  downs = t .downs + bit (eqb opcode 0xE9 && not (carryAfter (u .out)));
-}
-
--- a byte that a row doesn't name is 0
-abbrev pub bytes : List ℕ → ℕ → ℕ
-bytes l k = getD l k 0
-
-abbrev pub further : Machine → List ℕ → Seen → Answer → Seen
-further m b t (Next r) = joined (bytes b 0) t (m r (bytes b))
-further m b t (Refused k) = t
-
-abbrev pub follow : Machine → List (List ℕ) → Seen → Seen
-follow m [] t = t
-follow m (b ∷ bs) t = follow m bs (further m b t (t .out))
-
-abbrev pub runs : Machine → Figure → Seen
-runs m f = follow m (f .answers) (record { asked = []; out = Next (f .start); ups = 0; downs = 0 })
-
--- ---- what is seen of each thing that a row says
-abbrev pub valueOf : Name → Seen → Record → ℕ
-valueOf A t r = r .a
-valueOf X t r = r .x
-valueOf Y t r = r .y
-valueOf S t r = r .s
-valueOf DP t r = r .d
-valueOf PC t r = r .pc
-valueOf PBR t r = r .pbr
-valueOf DBR t r = r .dbr
-valueOf n t r = bit (r .flags .negative)
-valueOf v t r = bit (r .flags .overflow)
-valueOf d t r = bit (r .flags .decimal)
-valueOf z t r = bit (r .flags .zero)
-valueOf c t r = bit (r .flags .carry)
-valueOf Cycles t r = length (t .asked)
-valueOf Ups t r = t .ups
-valueOf Downs t r = t .downs
-valueOf Refusal t r = 0
-
-abbrev pub valueAfter : Name → Seen → Answer → Told
-valueAfter k t (Next r) = k is valueOf k t r
-valueAfter k t (Refused j) = Refusal is numberOf j
-
-abbrev pub look : Seen → Told → Told
-look t (k is w) = valueAfter k t (t .out)
-look t (Asks q) = Asks (t .asked)
-
-abbrev pub gives : Machine → Figure → List Told
-gives m f = map (look (runs m f)) (f .says)
-
--- ---- the table: a row of one instruction, and of several; a pair is CLC with ADC #, or SEC with SBC #
-abbrev pub row : Record → List ℕ → List Told → Figure
-row r b q = record { start = r; answers = b ∷ []; says = q }
-
-abbrev pub rows : Record → List (List ℕ) → List Told → Figure
-rows r b q = record { start = r; answers = b; says = q }
-
-abbrev pub add : List ℕ → List (List ℕ)
-add b = (0x18 ∷ []) ∷ (0x69 ∷ b) ∷ []
-
-abbrev pub subtract : List ℕ → List (List ℕ)
-subtract b = (0x38 ∷ []) ∷ (0xE9 ∷ b) ∷ []
+use Rattle.sheet.specs.EdgeFigures.{modes, fetches, stacks, widths, unlisted, refusals}
+use Rattle.sheet.specs.FigureForm.{Figure, Machine, A, X, Y, S, DP, PC, PBR, DBR, n, v, d, z, c, Cycles, Ups, Downs, _is_, Asks, emulation, native8, native16, wideA, wideIndex, row, rows, add, subtract, cycleAfterCycle, gives}
 
 unfoldable pub figures : List Figure
 figures =
@@ -383,11 +192,18 @@ figures =
     ∷ row (wideIndex (X is 0x1280 ∷ A is 0x5678 ∷ [])) (0x8A ∷ []) (A is 0x5680 ∷ n is 1 ∷ [])
     ∷ row (wideIndex (X is 0x1234 ∷ [])) (0xDA ∷ [])
     (Asks (O 0x008000 ∷ I 0x008001 ∷ W 0x0001FF 0x12 ∷ W 0x0001FE 0x34 ∷ []) ∷ S is 0x01FD ∷ [])
-    -- a byte that isn't listed: refusal 5
-    ∷ row (native8 []) (0x00 ∷ []) (Refusal is 5 ∷ [])
     ∷ []
 
--- ---- the one statement: what the sheet gives for each row is what the row says, and what cycle after cycle gives is too
+-- all that hold of the sheet and of the cycles
+unfoldable pub table : List Figure
+table = figures ++ modes ++ fetches ++ stacks ++ widths ++ unlisted
+
+-- ---- the one statement: what the sheet gives for each row is what the row says, and what cycle after cycle gives is too; a refusal of a
+-- record as it stands is cycle after cycle's alone
+abbrev pub Gives : Machine → List Figure → Type 0
+Gives via l = map (gives via) l ≡ map (λ (f : Figure). f .says) l
+
 pub record FiguresHold : Type 0 where
-  pub sheet : map (gives instruction) figures ≡ map (λ (f : Figure). f .says) figures
-  pub cycles : map (gives cycleAfterCycle) figures ≡ map (λ (f : Figure). f .says) figures
+  pub sheet : Gives instruction table
+  pub cycles : Gives cycleAfterCycle table
+  pub refused : Gives cycleAfterCycle refusals

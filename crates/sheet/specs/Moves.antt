@@ -3,14 +3,16 @@
 use Prim.Native.Nat.{ℕ, zero, suc}
 use mathlib.Core.Bool.{Bool, false}
 use mathlib.Core.List.{List, [], _∷_, _++_}
-use Rattle.words.specs.Words.{pick, lowOf, up, at, index}
+use Rattle.words.specs.Words.{pick, up, index}
 use Rattle.cpu.specs.Registers.{stepped}
 use Rattle.cpu.specs.declared.types.Record.{Record}
 use Rattle.cpu.specs.declared.types.Request.{Request}
 use Rattle.cpu.specs.declared.types.Answer.{Answer}
 use Rattle.cpu.specs.declared.types.Answer.the-variants.{Next, Refused}
+use Rattle.opcodes.specs.declared.types.Operation.the-variants.{Flag}
+use Rattle.opcodes.specs.declared.types.Shape.the-variants.{Move}
 use Rattle.sheet.specs.Run.{Ran, run}
-use Rattle.sheet.specs.Sheet.{O, P, D, W, I}
+use Rattle.sheet.specs.Sheet.{sheet}
 
 -- ---- byte after byte, cycle by cycle
 
@@ -61,16 +63,30 @@ xAfter r ups i = indexAfter ups (r .flags .indexsel) (r .x) i
 abbrev pub yAfter : Record → (ups : Bool) → (i : ℕ) → ℕ
 yAfter r ups i = indexAfter ups (r .flags .indexsel) (r .y) i
 
--- the address K,PC+k
-abbrev pub KPC : Record → (k : ℕ) → ℕ
-KPC r k = at (r .pbr) (up (r .pc) k)
+-- the record with other index registers: all of it that a move's next byte asks otherwise
+abbrev pub reindexed : Record → (x y : ℕ) → Record
+reindexed r x y = record {
+  a = r .a;
+  x = x;
+  y = y;
+  s = r .s;
+  d = r .d;
+  pc = r .pc;
+  pbr = r .pbr;
+  dbr = r .dbr;
+  flags = r .flags;
+  held = r .held;
+  ir = r .ir;
+  tcu = r .tcu;
+  tempaddr = r .tempaddr;
+  tempdata = r .tempdata;
+  tempbank = r .tempbank;
+}
 
 module _ (r : Record) (ups : Bool) (b : ℕ → ℕ → ℕ) where
-  -- byte i's seven cycles; what is answered to the opcode read again isn't looked at
+  -- byte i's seven cycles, by the sheet's row; what is answered to the opcode read again isn't looked at
   abbrev pub seven : ℕ → List Request
-  seven i =
-      let q : ℕ = at (b i 1) (yAfter r ups i) in
-      O (KPC r 0) ∷ P (KPC r 1) ∷ P (KPC r 2) ∷ D (at (lowOf (b i 2)) (xAfter r ups i)) ∷ W q (lowOf (b i 3)) ∷ I q ∷ I q ∷ []
+  seven i = sheet (reindexed r (xAfter r ups i) (yAfter r ups i)) (b i) Move (Flag ups) false false false .requests
 
   -- those of n bytes from byte i on
   abbrev pub sevens : (i n : ℕ) → List Request
