@@ -45,15 +45,15 @@ unfoldable pub answeredTo : Session → ℕ → Stepped
 answeredTo s b = cameTo s (answerOf (s .at) b)
 
 -- after a run of one cycle that ended with a number and a record
-abbrev pub ended : (cycles number : ℕ) → Record → Stepped
-ended c n r = stepped (sessionAt r (pick (eqb n 0) (counted c) c)) n
+abbrev pub afterRun : (cycles number : ℕ) → Record → Stepped
+afterRun c n r = stepped (sessionAt r (pick (eqb n 0) (counted c) c)) n
 
 -- after a cycle over a memory; and that memory
 abbrev pub oneCycle : Session → List ℕ → End
 oneCycle s m = wholeRun 1 (s .at) m
 
 unfoldable pub cycledOver : Session → List ℕ → Stepped
-cycledOver s m = ended (s .cycles) (oneCycle s m .number) (oneCycle s m .rec)
+cycledOver s m = afterRun (s .cycles) (oneCycle s m .number) (oneCycle s m .rec)
 
 unfoldable pub memoryOver : Session → List ℕ → List ℕ
 memoryOver s m = oneCycle s m .mem

@@ -1,7 +1,7 @@
 // The work is done by value. The two entries that change a lent session only take it apart and put it back.
 ghost use mathlib.Core.Path.{_≡_};
 ghost use Rattle.step.specs.Cycle.{requestOf};
-ghost use Rattle.session.specs.Sessions.{counted, started, numbered, ended, answeredTo, cycledOver, memoryOver};
+ghost use Rattle.session.specs.Sessions.{counted, started, numbered, afterRun, answeredTo, cycledOver, memoryOver};
 use crate::types::Session;
 use crate::types::Stepped;
 use cpu::record::number;
@@ -72,7 +72,7 @@ pub fn answered(s: Session, b: u8) -> Stepped
 
 // A session of so many cycles, after a run of one more.
 fn after_run(cycles: u64, o: Outcome) -> Stepped
-    ensures { λ t. ⌜ t ≡ ended cycles (o .refusal) (o .after) ⌝ }
+    ensures { λ t. ⌜ t ≡ afterRun cycles (o .refusal) (o .after) ⌝ }
 {
     let after = o.after;
     let number = o.refusal;
