@@ -21,6 +21,10 @@ top = 18446744073709551615
 unfoldable pub counted : ℕ → ℕ
 counted n = pick (ltb n top) (n + 1) n
 
+-- a refused cycle, one with a number, isn't counted
+abbrev pub countedIf : (number cycles : ℕ) → ℕ
+countedIf n c = pick (eqb n 0) (counted c) c
+
 -- a session at a record, of so many cycles
 abbrev pub sessionAt : Record → ℕ → Session
 sessionAt r n = record { at = r; cycles = n }
@@ -46,7 +50,7 @@ answeredTo s b = cameTo s (answerOf (s .at) b)
 
 -- after a run of one cycle that ended with a number and a record
 abbrev pub afterRun : (cycles number : ℕ) → Record → Stepped
-afterRun c n r = stepped (sessionAt r (pick (eqb n 0) (counted c) c)) n
+afterRun c n r = stepped (sessionAt r (countedIf n c)) n
 
 -- after a cycle over a memory; and that memory
 abbrev pub oneCycle : Session → List ℕ → End

@@ -1,7 +1,7 @@
 // The work is done by value. The two entries that change a lent session only take it apart and put it back.
 ghost use mathlib.Core.Path.{_≡_};
 ghost use Rattle.step.specs.Cycle.{requestOf};
-ghost use Rattle.session.specs.Sessions.{counted, started, numbered, afterRun, answeredTo, cycledOver, memoryOver};
+ghost use Rattle.session.specs.Sessions.{counted, countedIf, started, numbered, afterRun, answeredTo, cycledOver, memoryOver};
 use crate::types::Session;
 use crate::types::Stepped;
 use cpu::record::number;
@@ -12,6 +12,9 @@ use run::run::run;
 use run::types::Outcome;
 use step::answer;
 use step::request;
+
+// The greatest count.
+const TOP: u64 = 18_446_744_073_709_551_615;
 
 // A session at a record, with no cycle done.
 pub fn start(at: Record) -> Session
@@ -32,11 +35,7 @@ pub fn asking(s: Session) -> Asked
 fn count(n: u64) -> u64
     ensures { λ m. ⌜ m ≡ counted n ⌝ }
 {
-    if n < 18_446_744_073_709_551_615 {
-        n + 1
-    } else {
-        n
-    }
+    if n < TOP { n + 1 } else { n }
 }
 
 fn refused_by(a: Answer) -> u8
@@ -70,29 +69,26 @@ pub fn answered(s: Session, b: u8) -> Stepped
     }
 }
 
-// A session of so many cycles, after a run of one more.
-fn after_run(cycles: u64, o: Outcome) -> Stepped
-    ensures { λ t. ⌜ t ≡ afterRun cycles (o .refusal) (o .after) ⌝ }
+// The count after a cycle with that number: a refused one isn't counted.
+fn total(number: u8, cycles: u64) -> u64
+    ensures { λ n. ⌜ n ≡ countedIf number cycles ⌝ }
 {
-    let after = o.after;
+    if number == 0 { count(cycles) } else { cycles }
+}
+
+// A session of so many cycles, after a run of one more.
+fn after_run(before: u64, o: Outcome) -> Stepped
+    ensures { λ t. ⌜ t ≡ afterRun before (o .refusal) (o .after) ⌝ }
+{
+    let at = o.after;
     let number = o.refusal;
-    if number == 0 {
-        let more = count(cycles);
-        Stepped {
-            session: Session {
-                at: after,
-                cycles: more,
-            },
-            number: number,
-        }
-    } else {
-        Stepped {
-            session: Session {
-                at: after,
-                cycles: cycles,
-            },
-            number: number,
-        }
+    let cycles = total(number, before);
+    Stepped {
+        session: Session {
+            at: at,
+            cycles: cycles,
+        },
+        number: number,
     }
 }
 
