@@ -111,7 +111,9 @@ pub fn answer_byte(s: &mut Session, b: u8) -> u8
 
 // The same by a cycle over a lent memory.
 pub fn do_cycle(s: &mut Session, mem: &mut [u8]) -> u8
-    ensures { λ n. ⌜ (n ≡ cycledOver (now (s .entry)) (now (mem .entry)) .number) × (now (s .exit) ≡ cycledOver (now (s .entry)) (now (mem .entry)) .session) × (now (mem .exit) ≡ memoryOver (now (s .entry)) (now (mem .entry))) ⌝ }
+    ensures { λ n. ⌜ (n ≡ cycledOver (now (s .entry)) (now (mem .entry)) .number)
+        × (now (s .exit) ≡ cycledOver (now (s .entry)) (now (mem .entry)) .session)
+        × (now (mem .exit) ≡ memoryOver (now (s .entry)) (now (mem .entry))) ⌝ }
 {
     let t = cycled(*s, mem);
     *s = t.session;
