@@ -54,12 +54,12 @@ fit-over (Ask q) c r m h =
     fit-pick (leb (length m) (q .addr)) (Stop Bank) (answered (crossed q (busByte q m)) (answeredBy c r (busByte q m))) tt
     (fit-answer (answeredBy c r (busByte q m)) (crossed q (busByte q m)) (λ s e. h s (busByte q m) e))
 
-fit-cycle : (r : Record) (m : List ℕ) → wellFormed r ≡ true → Fit (cycleOf r m)
+fit-cycle : (r : Record) (m : List ℕ) → Fit (cycleOf r m)
 unfolding cycleOf answerOf
-fit-cycle r m w = fit-over (askedBy (microOf r) r) (microOf r) r m (λ s b e. kept r s b w e)
+fit-cycle r m = fit-over (askedBy (microOf r) r) (microOf r) r m (λ s b e. kept r s b e)
 
-pub still-well : (r s : Record) (m : List ℕ) (l : Request) (t : Turn) → wellFormed r ≡ true → t ≡ cycleOf r m → t ≡ Done l s → wellFormed s ≡ true
-still-well r s m l t w e g = subst Fit (sym e ∙ g) (fit-cycle r m w)
+pub still-well : (r s : Record) (m : List ℕ) (l : Request) (t : Turn) → t ≡ cycleOf r m → t ≡ Done l s → wellFormed s ≡ true
+still-well r s m l t e g = subst Fit (sym e ∙ g) (fit-cycle r m)
 
 -- ---- a run by its first cycle
 

@@ -63,7 +63,7 @@ loop-again c =
     let i = c .before .before .before .before .before .before .before .before .before .loop .inv in
     let t = turned _ _ _ _ (i .2) (c .before .before .before .before .before .before .before .well-micro .ensures) (y .0) in
     let g = c .before .t .given .1 in
-    (omega arith, omega (arith, c .before .before .before .before .before .turn .kept .1 .1 .0, i .1), still-well _ _ _ _ _ (i .2) t g, left-done _ _ _ _ _ _ _ _ _ (c .before .before .before .before .before .before .before .before .loop-test .taken) t (y .1) g (i .3))
+    (omega arith, omega (arith, c .before .before .before .before .before .turn .kept .1 .1 .0, i .1), still-well _ _ _ _ _ t g, left-done _ _ _ _ _ _ _ _ _ (c .before .before .before .before .before .before .before .before .loop-test .taken) t (y .1) g (i .3))
 
 ended-requires-2 : tie.Need-ended-requires-2 Inv-loop μ-loop
 ended-requires-2 c κs = search needs
