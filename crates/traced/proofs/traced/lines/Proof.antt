@@ -9,10 +9,10 @@ use Rattle.traced.proofs.traced.lines.Tie as tie
 
 -- the locals as the loop finds them, and after `done` cycles
 abbrev Inv-loop : tie.InvT-loop
-Inv-loop mem₀ text₀ before budget place₀ at₀ done₀ mem text place at done = Going budget before mem₀ text₀ place₀ at₀ mem text place at done
+Inv-loop mem₀ text₀ start before budget place₀ at₀ done₀ mem text place at done = Going budget before mem₀ text₀ place₀ at₀ mem text place at done
 
 abbrev μ-loop : tie.MeasureT-loop
-μ-loop mem₀ text₀ before budget place₀ at₀ done₀ mem text place at done = budget - done
+μ-loop mem₀ text₀ start before budget place₀ at₀ done₀ mem text place at done = budget - done
 
 loop-holds : tie.Need-loop-holds Inv-loop μ-loop
 loop-holds c = going-start _ _ _ _ _ _ (c .before .before .pre .1 .1) (c .before .before .pre .0)
