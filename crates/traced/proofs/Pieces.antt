@@ -85,3 +85,40 @@ texts-joined before j n r m h k =
     let e = run-all j r m h in
     let x = text-joined before (runOf j r m .lines) (runOf n (runOf j r m .rec) (runOf j r m .mem) .lines) (omega (arith, e)) in
     rw (cut j n r m h) (rw e at x)
+
+-- the piece that goes on where u ended, after `before` cycles
+abbrev pub onward : (before n : ℕ) → Written → (t : List ℕ) → Written
+onward before n u t = wholePiece before n (u .end .rec) (u .end .mem) t
+
+-- u and then v are w: the ends joined, and the texts at the front of the three buffers, byte for byte
+pub record Joined (u v w : Written) : Type 0 where
+  pub end : w .end ≡ joined (u .end) (v .end)
+  pub written : w .written ≡ u .written + v .written
+  pub text : take (w .written) (w .text) ≡ take (u .written) (u .text) ++ take (v .written) (v .text)
+
+joined-pieces : (before j n : ℕ) (r : Record) (m t₁ t₂ t : List ℕ) → runOf j r m .number ≡ 0 → 0 < before + j
+    → Joined (pieceOf before j r m t₁) (pieceOf (before + j) n (runOf j r m .rec) (runOf j r m .mem) t₂) (pieceOf before (j + n) r m t)
+joined-pieces before j n r m t₁ t₂ t h k =
+    let a = pieceText before (runOf j r m .lines) in
+    let b = pieceText (before + j) (runOf n (runOf j r m .rec) (runOf j r m .mem) .lines) in
+    let x = pieceText before (runOf (j + n) r m .lines) in
+    let e : a ++ b ≡ x = texts-joined before j n r m h k in
+    record {
+      end = cut j n r m h;
+      written = ap length (sym e) ∙ length-append a b;
+      text = rw (take-append-seam x (drop (length x) t), take-append-seam a (drop (length a) t₁), take-append-seam b (drop (length b) t₂)) (sym e);
+    }
+
+pub pieces-joined : (before j n : ℕ) (r : Record) (m t₁ t₂ t : List ℕ)
+    → wholePiece before j r m t₁ .end .number ≡ 0
+    → 0 < before + j
+    → before + j + n ≤ most
+    → roomOf (before + j) n ≤ length t₂
+    → roomOf before (j + n) ≤ length t
+    → Joined (wholePiece before j r m t₁) (onward (before + j) n (wholePiece before j r m t₁) t₂) (wholePiece before (j + n) r m t)
+pieces-joined before j n r m t₁ t₂ t h k q room₂ room =
+    let g = not-refused before j r m t₁ h in
+    let e = good-piece before j r m t₁ g in
+    let g₂ : Good (before + j) n (runOf j r m .mem) t₂ = record { memory = run-size j r m ∙ g .memory; budget = q; room = room₂ } in
+    let g₃ : Good before (j + n) m t = record { memory = g .memory; budget = omega arith; room = room } in
+    rw (e, good-piece (before + j) n (runOf j r m .rec) (runOf j r m .mem) t₂ g₂, good-piece before (j + n) r m t g₃) (joined-pieces before j n r m t₁ t₂ t (rw e at h) k)
