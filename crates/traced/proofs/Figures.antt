@@ -1,11 +1,11 @@
 -- Document 01's trace, from the machine's start to the last byte of text.
 use Prim.Native.Nat.{ℕ, _≤_}
 use mathlib.Core.Path.{_≡_, refl, sym, subst}
-use mathlib.Core.Bool.{Bool, true, false}
+use mathlib.Core.Bool.{true, false}
 use mathlib.Core.List.{List, [], _∷_, _++_}
 use native.Mathlib.Omega.{arith}
 use lib.ListN.{length, getD, drop}
-use Rattle.words.specs.Words.{word, lowSet, inc, sum16, at, sum24, pageOne, index}
+use Rattle.words.specs.Words.{word, lowSet, inc, at, pageOne, index}
 use Rattle.adder.specs.Adder.{adcBinary, adcOf}
 use Rattle.alu.specs.Alu.{nz, summed, adcByte}
 use Rattle.cpu.specs.Registers.{operates}

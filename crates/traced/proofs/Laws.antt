@@ -2,13 +2,13 @@
 use Prim.Native.Nat.{ℕ, zero, suc, _+_, _*_, _-_, _≤_, _<_}
 use mathlib.Core.Path.{_≡_, refl, sym, _∙_, ap}
 use mathlib.Core.Bool.{Bool, true, false}
-use mathlib.Core.List.{List, [], _∷_, _++_}
+use mathlib.Core.List.{List, [], _++_}
 use native.Mathlib.Omega.{arith}
 use native.Mathlib.Nat.{add-zero, zero-add, sub-zero, suc-ne-zero}
 use borrow.Author.Tests.{eq-eqb, ne-eqb, le-leb, lt-leb}
 use lib.Dec.{leb, eqb}
 use lib.ListN.{length, set, length-append, length-set}
-use lib.Seq.{sets, sets-eq}
+use lib.Seq.{sets-eq}
 use Rattle.words.specs.Words.{pick}
 use Rattle.cpu.specs.Record.{wellFormed, numberOf}
 use Rattle.cpu.specs.declared.types.Record.{Record}
@@ -22,10 +22,10 @@ use Rattle.memory.specs.declared.types.Turn.the-variants.{Done, Stop}
 use Rattle.trace.specs.Text.{lineText, linesText, header, over, Put, Wrote}
 use Rattle.trace.proofs.Laws.{then, lines-short, Rest, rest-all, rest-none, rest-line}
 use Rattle.run.specs.Runs.{End, ends, more, runOf, size, most}
-use Rattle.run.proofs.Laws.{Left, left-all, left-done, left-stop, left-end, run-done, run-stop, run-none, still-well}
+use Rattle.run.proofs.Laws.{Left, left-all, left-done, run-done, run-stop, run-none, still-well}
 use Rattle.run.proofs.TwoRuns.{refusal-numbered}
 use Rattle.traced.specs.declared.types.Traced.{Traced}
-use Rattle.traced.specs.Traces.{head, pieceText, roomOf, Written, untouched, textOf, pieceOf, wholePiece, tracedAs, malformedAt, Tells, Listed}
+use Rattle.traced.specs.Traces.{head, pieceText, roomOf, untouched, textOf, pieceOf, wholePiece, tracedAs, malformedAt, Tells, Listed}
 
 -- ---- what a run keeps and counts, by what its first cycle comes to
 

@@ -1,8 +1,8 @@
 -- What a traced piece has to do with a run, how much it writes, and that pieces in a row make one.
-use Prim.Native.Nat.{ℕ, zero, suc, _+_, _*_, _≤_, _<_}
+use Prim.Native.Nat.{ℕ, _+_, _≤_, _<_}
 use mathlib.Core.Path.{_≡_, refl, sym, _∙_, ap}
 use mathlib.Core.Bool.{Bool, true, false}
-use mathlib.Core.List.{List, [], _∷_, _++_, append-assoc}
+use mathlib.Core.List.{List, [], _++_, append-assoc}
 use native.Mathlib.Omega.{arith}
 use native.Mathlib.Nat.{zero-add}
 use borrow.Author.Tests.{eqb-true, leb-true, le-leb}
@@ -10,10 +10,8 @@ use lib.Dec.{leb, eqb}
 use lib.ListN.{length, take, drop, length-append}
 use lib.Seq.{take-append-seam}
 use Rattle.words.specs.Words.{pick}
-use Rattle.cpu.specs.Record.{numberOf}
 use Rattle.cpu.specs.declared.types.Record.{Record}
 use Rattle.cpu.specs.declared.types.Request.{Request}
-use Rattle.cpu.specs.declared.types.Refusal.the-variants.{Memory, Budget, Room}
 use Rattle.trace.specs.Text.{linesText}
 use Rattle.trace.proofs.Laws.{lines-append}
 use Rattle.run.specs.Runs.{End, ends, joined, runOf, wholeRun, size, most}

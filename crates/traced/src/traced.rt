@@ -72,7 +72,14 @@ fn put_head(text: &mut [u8], before: u32) -> usize
 }
 
 // The cycles of a piece whose memory, budget, room and record are found good, with their lines from `start` on.
-fn lines(rec: Record, mem: &mut [u8], text: &mut [u8], start: usize, before: u32, budget: u32) -> Traced
+fn lines(
+    rec: Record,
+    mem: &mut [u8],
+    text: &mut [u8],
+    start: usize,
+    before: u32,
+    budget: u32,
+) -> Traced
     requires { ⌜ wellFormed rec ≡ true ⌝ }
     requires { ⌜ (before + budget ≤ most) × (start + 22 * budget ≤ length (now text)) ⌝ }
     ensures { λ o. ⌜ Listed (runOf budget rec (now (mem .entry))) (before + 1) start (now (text .entry)) o (now (mem .exit)) (now (text .exit)) ⌝ }
@@ -118,7 +125,13 @@ fn piece(rec: Record, mem: &mut [u8], text: &mut [u8], before: u32, budget: u32)
 }
 
 // At most `budget` cycles over a lent memory that stands for bank 0, with a line for each in a lent text, `before` cycles having been done.
-pub fn traced_piece(rec: Record, mem: &mut [u8], text: &mut [u8], before: u32, budget: u32) -> Traced
+pub fn traced_piece(
+    rec: Record,
+    mem: &mut [u8],
+    text: &mut [u8],
+    before: u32,
+    budget: u32,
+) -> Traced
     ensures { λ o. ⌜ Tells (wholePiece before budget rec (now (mem .entry)) (now (text .entry))) o (now (mem .exit)) (now (text .exit)) ⌝ }
 {
     if mem.len() != 65536 {

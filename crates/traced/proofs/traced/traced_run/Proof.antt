@@ -12,7 +12,6 @@ same-length-2 : tie.Need-same-length-2
 same-length-2 c = search needs
 
 returns : tie.Need-returns
-
 returns c = c .before .before .before .before .traced-piece .ensures
 
 pub traced-run-spec : {M : Type 1} → statement M
