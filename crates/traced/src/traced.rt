@@ -1,0 +1,154 @@
+// Refusals 1, 2 and 3 once, which change nothing; then the header, and cycle after cycle a line. A trace can be made in pieces: a piece is told
+// how many cycles were done before it, numbers its lines on from there, and writes the header only where none were.
+ghost use mathlib.Core.Path.{_≡_};
+ghost use mathlib.Core.Bool.{true};
+ghost use Prim.Native.Nat.{_+_, _*_, _≤_};
+ghost use lib.Dec.{leb};
+ghost use lib.ListN.{length};
+ghost use Rattle.cpu.specs.Record.{wellFormed};
+ghost use Rattle.trace.specs.Text.{Wrote};
+ghost use Rattle.run.specs.Runs.{stoppedBy, runOf, most};
+ghost use Rattle.traced.specs.Traces.{head, roomOf, tracedAs, malformedAt, pieceOf, wholePiece, Listed, Tells};
+use crate::types::Traced;
+use cpu::record::number;
+use cpu::record::well_formed;
+use cpu::types::Record;
+use memory::turn::turn;
+use memory::types::Turn;
+use step::well_micro;
+use trace::put_header;
+use trace::put_line;
+
+fn refused_by(t: Turn) -> u8
+    ensures { λ n. ⌜ n ≡ stoppedBy t ⌝ }
+{
+    match t {
+        Turn::Done(_, _) => 0,
+        Turn::Stop(n) => number(n),
+    }
+}
+
+fn ended(refusal: u8, cycles: u32, written: usize, after: Record) -> Traced
+    ensures { λ o. ⌜ o ≡ tracedAs refusal cycles written after ⌝ }
+{
+    Traced {
+        refusal: refusal,
+        cycles: cycles,
+        written: written,
+        after: after,
+    }
+}
+
+// Whether the cycles done before and the budget come to a million at most. Their sum might not fit, so it isn't made.
+fn in_budget(before: u32, budget: u32) -> bool
+    ensures { λ r. ⌜ r ≡ leb (before + budget) most ⌝ }
+{
+    if 1_000_000 < budget {
+        return false;
+    }
+    before <= 1_000_000 - budget
+}
+
+// The room that a piece must find: the header's, if it has one, and 22 bytes for each cycle.
+fn room(before: u32, budget: u32) -> usize
+    requires { ⌜ before + budget ≤ most ⌝ }
+    ensures { λ n. ⌜ n ≡ roomOf before budget ⌝ }
+{
+    if before == 0 {
+        return 6 + 22 * (budget as usize);
+    }
+    22 * (budget as usize)
+}
+
+// The header where no cycle was done before, and the place after it.
+fn put_head(text: &mut [u8], before: u32) -> usize
+    requires { ⌜ length (head before) ≤ length (now text) ⌝ }
+    ensures { λ p. ⌜ Wrote (now (text .entry)) (now (text .exit)) 0 p (head before) ⌝ }
+{
+    if before == 0 {
+        return put_header(text, 0);
+    }
+    0
+}
+
+// The cycles of a piece whose memory, budget, room and record are found good, with their lines from `start` on.
+fn lines(
+    rec: Record,
+    mem: &mut [u8],
+    text: &mut [u8],
+    start: usize,
+    before: u32,
+    budget: u32,
+) -> Traced
+    requires { ⌜ wellFormed rec ≡ true ⌝ }
+    requires { ⌜ (before + budget ≤ most) × (start + 22 * budget ≤ length (now text)) ⌝ }
+    ensures { λ o. ⌜ Listed (runOf budget rec (now (mem .entry))) (before + 1) start (now (text .entry)) o (now (mem .exit)) (now (text .exit)) ⌝ }
+{
+    let mut place = start;
+    let mut at = rec;
+    let mut done: u32 = 0;
+    while done < budget {
+        let t = turn(well_micro(at), at, mem);
+        let Turn::Done(line, next) = t else {
+            return ended(refused_by(t), done, place, at);
+        };
+        place = put_line(text, place, before + done + 1, line);
+        at = next;
+        done += 1;
+    }
+    ended(0, done, place, at)
+}
+
+// A record that isn't well formed: 4, if a cycle is asked for at all.
+fn unfit(rec: Record, place: usize, budget: u32) -> Traced
+    ensures { λ o. ⌜ o ≡ malformedAt place budget rec ⌝ }
+{
+    if budget == 0 {
+        ended(0, 0, place, rec)
+    } else {
+        ended(4, 0, place, rec)
+    }
+}
+
+// A piece whose memory, budget and room are found good: the header is written whatever comes.
+fn piece(rec: Record, mem: &mut [u8], text: &mut [u8], before: u32, budget: u32) -> Traced
+    requires { ⌜ (before + budget ≤ most) × (roomOf before budget ≤ length (now text)) ⌝ }
+    ensures { λ o. ⌜ Tells (pieceOf before budget rec (now (mem .entry)) (now (text .entry))) o (now (mem .exit)) (now (text .exit)) ⌝ }
+{
+    let place = put_head(text, before);
+    let well = well_formed(rec);
+    if well {
+        lines(rec, mem, text, place, before, budget)
+    } else {
+        unfit(rec, place, budget)
+    }
+}
+
+// At most `budget` cycles over a lent memory that stands for bank 0, with a line for each in a lent text, `before` cycles having been done.
+pub fn traced_piece(
+    rec: Record,
+    mem: &mut [u8],
+    text: &mut [u8],
+    before: u32,
+    budget: u32,
+) -> Traced
+    ensures { λ o. ⌜ Tells (wholePiece before budget rec (now (mem .entry)) (now (text .entry))) o (now (mem .exit)) (now (text .exit)) ⌝ }
+{
+    if mem.len() != 65536 {
+        return ended(1, 0, 0, rec);
+    }
+    if !in_budget(before, budget) {
+        return ended(2, 0, 0, rec);
+    }
+    if text.len() < room(before, budget) {
+        return ended(3, 0, 0, rec);
+    }
+    piece(rec, mem, text, before, budget)
+}
+
+// A whole traced run: a piece before which nothing was done.
+pub fn traced_run(rec: Record, mem: &mut [u8], text: &mut [u8], budget: u32) -> Traced
+    ensures { λ o. ⌜ Tells (wholePiece 0 budget rec (now (mem .entry)) (now (text .entry))) o (now (mem .exit)) (now (text .exit)) ⌝ }
+{
+    traced_piece(rec, mem, text, 0, budget)
+}
