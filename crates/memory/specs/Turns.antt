@@ -5,6 +5,7 @@ use mathlib.Core.List.{List}
 use lib.Dec.{leb}
 use lib.ListN.{length, getD, set}
 use Rattle.words.specs.Words.{pick}
+use Rattle.cpu.specs.Record.{numberOf}
 use Rattle.cpu.specs.declared.types.Record.{Record}
 use Rattle.cpu.specs.declared.types.Request.{Request}
 use Rattle.cpu.specs.declared.types.Refusal.{Refusal}
@@ -53,3 +54,8 @@ storeLine l mem = pick (l .write) (set mem (l .addr) (l .byte)) mem
 abbrev pub storeOf : Turn → List ℕ → List ℕ
 storeOf (Done l r) mem = storeLine l mem
 storeOf (Stop n) mem = mem
+
+-- document 01's number of a cycle: 0, or its refusal's
+abbrev pub stoppedBy : Turn → ℕ
+stoppedBy (Done l r) = 0
+stoppedBy (Stop n) = numberOf n

@@ -3,8 +3,9 @@ ghost use mathlib.Core.Path.{_≡_};
 ghost use Prim.Native.Nat.{_<_};
 ghost use lib.ListN.{length};
 ghost use Rattle.step.specs.Cycle.{answeredBy};
-ghost use Rattle.memory.specs.Turns.{answered, busByte, crossed, refusalOf, storeLine, storeOf, turnBy};
+ghost use Rattle.memory.specs.Turns.{answered, busByte, crossed, refusalOf, storeLine, stoppedBy, storeOf, turnBy};
 use crate::types::Turn;
+use cpu::record::number;
 use cpu::types::Answer;
 use cpu::types::Asked;
 use cpu::types::Record;
@@ -84,5 +85,15 @@ pub fn turn(m: Micro, r: Record, mem: &mut [u8]) -> Turn
             }
             over(q, m, r, mem)
         }
+    }
+}
+
+// Document 01's number of a turn: 0, or its refusal's.
+pub fn refused_by(t: Turn) -> u8
+    ensures { λ n. ⌜ n ≡ stoppedBy t ⌝ }
+{
+    match t {
+        Turn::Done(_, _) => 0,
+        Turn::Stop(n) => number(n),
     }
 }

@@ -50,11 +50,6 @@ outcome n c r = record { refusal = n; cycles = c; after = r }
 abbrev pub told : End → Outcome
 told e = outcome (e .number) (length (e .lines)) (e .rec)
 
--- the number of a stopped cycle
-abbrev pub stoppedBy : Turn → ℕ
-stoppedBy (Done l r) = 0
-stoppedBy (Stop n) = numberOf n
-
 -- a record that isn't well formed, asked for so many cycles
 abbrev pub malformed : ℕ → Record → Outcome
 malformed b r = outcome (pick (eqb b 0) 0 (numberOf Malformed)) 0 r

@@ -4,23 +4,14 @@ ghost use mathlib.Core.Bool.{true};
 ghost use Prim.Native.Nat.{_≤_};
 ghost use lib.ListN.{length};
 ghost use Rattle.cpu.specs.Record.{wellFormed};
-ghost use Rattle.run.specs.Runs.{stoppedBy, told, outcome, malformed, runOf, wholeRun};
+ghost use Rattle.run.specs.Runs.{told, outcome, malformed, runOf, wholeRun};
 use crate::types::Outcome;
-use cpu::record::number;
 use cpu::record::well_formed;
 use cpu::types::Record;
+use memory::turn::refused_by;
 use memory::turn::turn;
 use memory::types::Turn;
 use step::well_micro;
-
-fn refused_by(t: Turn) -> u8
-    ensures { λ n. ⌜ n ≡ stoppedBy t ⌝ }
-{
-    match t {
-        Turn::Done(_, _) => 0,
-        Turn::Stop(n) => number(n),
-    }
-}
 
 fn ended(refusal: u8, cycles: u32, after: Record) -> Outcome
     ensures { λ o. ⌜ o ≡ outcome refusal cycles after ⌝ }

@@ -18,7 +18,7 @@ use Rattle.opcodes.specs.Opcodes.{oneBytes, opcodes, decodeOf}
 use Rattle.step.specs.Cycle.{microOf}
 use Rattle.memory.specs.Turns.{cycleOf}
 use Rattle.memory.specs.declared.types.Turn.the-variants.{Done}
-use Rattle.sheet.specs.Figures.{native8, _is_, A, PC}
+use Rattle.sheet.specs.FigureForm.{native8, _is_, A, PC}
 use Rattle.trace.specs.Text.{digitsOf, decimal, hexDigit, hex2, hex6, lineText, linesText}
 use Rattle.run.specs.Runs.{End, ends, more, runOf, size}
 use Rattle.run.proofs.Laws.{run-done, run-none}

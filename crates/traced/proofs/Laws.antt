@@ -110,7 +110,7 @@ module _ (b before : ℕ) (m₀ t₀ : List ℕ) (p₀ : ℕ) (r₀ : Record) (m
         bank = k ∙ i .bank;
         size = z .size ∙ i .size;
         room = omega (arith, z .size, z .after, i .room);
-        well = still-well r s m l c (i .well) e g;
+        well = still-well r s m l c e g;
         left = left-done b d _ r s m m′ l c h e f g (i .left);
         rest = rw n (z .rest);
       }

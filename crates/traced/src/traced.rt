@@ -7,26 +7,17 @@ ghost use lib.Dec.{leb};
 ghost use lib.ListN.{length};
 ghost use Rattle.cpu.specs.Record.{wellFormed};
 ghost use Rattle.trace.specs.Text.{Wrote};
-ghost use Rattle.run.specs.Runs.{stoppedBy, runOf, most};
+ghost use Rattle.run.specs.Runs.{runOf, most};
 ghost use Rattle.traced.specs.Traces.{head, roomOf, tracedAs, malformedAt, pieceOf, wholePiece, Listed, Tells};
 use crate::types::Traced;
-use cpu::record::number;
 use cpu::record::well_formed;
 use cpu::types::Record;
+use memory::turn::refused_by;
 use memory::turn::turn;
 use memory::types::Turn;
 use step::well_micro;
 use trace::put_header;
 use trace::put_line;
-
-fn refused_by(t: Turn) -> u8
-    ensures { λ n. ⌜ n ≡ stoppedBy t ⌝ }
-{
-    match t {
-        Turn::Done(_, _) => 0,
-        Turn::Stop(n) => number(n),
-    }
-}
 
 fn ended(refusal: u8, cycles: u32, written: usize, after: Record) -> Traced
     ensures { λ o. ⌜ o ≡ tracedAs refusal cycles written after ⌝ }

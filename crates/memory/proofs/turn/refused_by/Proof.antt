@@ -1,6 +1,6 @@
 use borrow.Author.Needs.{needs}
-use Rattle.run.proofs.run.refused_by.Statement.{statement}
-use Rattle.run.proofs.run.refused_by.Tie as tie
+use Rattle.memory.proofs.turn.refused_by.Statement.{statement}
+use Rattle.memory.proofs.turn.refused_by.Tie as tie
 
 enum-told : tie.Need-enum-told
 enum-told c = search needs
