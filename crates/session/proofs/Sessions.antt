@@ -1,6 +1,6 @@
 -- What a bench may rely on: a refused step changes nothing, one that isn't refused counts, and two cycles in a row are a run of two.
 use Prim.Native.Nat.{ℕ, _+_, _≤_, _<_}
-use mathlib.Core.Path.{_≡_, refl, sym, _∙_, ap, subst}
+use mathlib.Core.Path.{_≡_, refl, sym, _∙_, ap}
 use mathlib.Core.Bool.{Bool, true, false}
 use mathlib.Core.List.{List}
 use native.Mathlib.Omega.{arith}
@@ -10,8 +10,6 @@ use borrow.Author.Tests.{ltb-true, eqb-true, eqb-false, lt-ltb, eq-eqb, ne-eqb}
 use Rattle.words.specs.Words.{pick}
 use Rattle.cpu.specs.Record.{numberOf}
 use Rattle.cpu.specs.declared.types.Record.{Record}
-use Rattle.cpu.specs.declared.types.Request.{Request}
-use Rattle.cpu.specs.declared.types.Refusal.{Refusal}
 use Rattle.cpu.specs.declared.types.Refusal.the-variants.{Memory, Budget}
 use Rattle.cpu.specs.declared.types.Answer.{Answer}
 use Rattle.cpu.specs.declared.types.Answer.the-variants.{Next, Refused}
@@ -19,7 +17,7 @@ use Rattle.step.specs.Cycle.{answerOf}
 use Rattle.memory.specs.Turns.{cycleOf, storeLine}
 use Rattle.memory.specs.declared.types.Turn.{Turn}
 use Rattle.memory.specs.declared.types.Turn.the-variants.{Done, Stop}
-use Rattle.run.specs.Runs.{End, ends, joined, runOf, wholeRun, size, most}
+use Rattle.run.specs.Runs.{End, ends, runOf, wholeRun, size, most}
 use Rattle.run.proofs.Laws.{run-done, run-stop, run-none, accepted, refused-1}
 use Rattle.run.proofs.TwoRuns.{refusal-numbered, cut}
 use Rattle.session.specs.declared.types.Session.{Session}
