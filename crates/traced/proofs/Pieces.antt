@@ -47,7 +47,7 @@ text-enough before b r m t = enough (eqb (length m) size) (leb (before + b) most
 
 -- ---- pieces in a row
 
--- a piece whose number is 0 was refused by none of 1, 2 and 3
+-- memory, budget and room as the refusals 1, 2 and 3 ask
 pub record Good (before b : ℕ) (m t : List ℕ) : Type 0 where
   pub memory : length m ≡ size
   pub budget : before + b ≤ most
@@ -60,6 +60,7 @@ good true true false before b r m t e f g h = absurd (omega (arith, h))
 good true false z before b r m t e f g h = absurd (omega (arith, h))
 good false y z before b r m t e f g h = absurd (omega (arith, h))
 
+-- a piece whose number is 0 had all three
 pub not-refused : (before b : ℕ) (r : Record) (m t : List ℕ) → wholePiece before b r m t .end .number ≡ 0 → Good before b m t
 unfolding wholePiece
 not-refused before b r m t h = good (eqb (length m) size) (leb (before + b) most) (leb (roomOf before b) (length t)) before b r m t refl refl refl h
@@ -75,8 +76,8 @@ text-joined before a b h =
     let z : head (before + length a) ≡ [] = head-later _ (λ e. omega (arith, e)) in
     rw (z, n, append-assoc (head before) (linesText (before + 1) a) _) (ap (λ (x : List ℕ). head before ++ x) (sym (lines-append (before + 1) a b)))
 
--- Pieces of j and then of n cycles, the first not refused, are one of j + n. With before 0 and j 0 the first piece would be the header alone and
--- the second would write it again: that is why 0 < before + j.
+-- the text of j cycles, not refused, and then of n is the text of j + n. With before 0 and j 0 the first piece would be the header alone and the
+-- second would write it again: that is why 0 < before + j.
 pub texts-joined : (before j n : ℕ) (r : Record) (m : List ℕ) → runOf j r m .number ≡ 0 → 0 < before + j
     → pieceText before (runOf j r m .lines) ++ pieceText (before + j) (runOf n (runOf j r m .rec) (runOf j r m .mem) .lines) ≡ pieceText before (runOf (j + n) r m .lines)
 texts-joined before j n r m h k =
@@ -107,6 +108,8 @@ joined-pieces before j n r m t₁ t₂ t h k =
       text = rw (take-append-seam x (drop (length x) t), take-append-seam a (drop (length a) t₁), take-append-seam b (drop (length b) t₂)) (sym e);
     }
 
+-- A piece of j cycles that ends with number 0, and one of n that goes on where it ended, are one piece of j + n; each in a buffer of its own
+-- that has room. The second may end by a refusal of a cycle, 4 to 7: so does the one. Why 0 < before + j is said above.
 pub pieces-joined : (before j n : ℕ) (r : Record) (m t₁ t₂ t : List ℕ)
     → wholePiece before j r m t₁ .end .number ≡ 0
     → 0 < before + j
