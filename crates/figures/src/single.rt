@@ -1,0 +1,183 @@
+// Single instructions, through `request` and `answer`.
+use crate::say::say;
+use crate::say::say_record;
+use crate::say::say_refusal;
+use crate::say::start;
+use cpu::types::Answer;
+use cpu::types::Asked;
+use cpu::types::Record;
+use cpu::types::Refusal;
+use cpu::types::Request;
+
+// One line of a trace, numbered within its figure: 16 bytes, since no figure has more than nine cycles.
+fn say_line(n: u32, q: Request) {
+    let mut text = [0u8; 16];
+    trace::put_line(&mut text, 0, n, q);
+    say(b"  ");
+    say(&text);
+}
+
+fn crossed(q: Request, byte: u8) -> Request {
+    let kind = q.kind;
+    Request {
+        write: q.write,
+        kind: kind,
+        addr: q.addr,
+        byte: byte,
+    }
+}
+
+// One cycle: what was asked is printed; the record after, or the refusal.
+fn cycle(n: u32, r: Record, byte: u8) -> Answer {
+    let asked = step::request(r);
+    match asked {
+        Asked::No(k) => Answer::Refused(k),
+        Asked::Ask(q) => {
+            if q.write {
+                say_line(n, q);
+            } else {
+                say_line(n, crossed(q, byte));
+            }
+            step::answer(r, byte)
+        }
+    }
+}
+
+fn refusal_of(a: Answer) -> Refusal {
+    match a {
+        Answer::Next(_) => Refusal::NoCycle,
+        Answer::Refused(n) => n,
+    }
+}
+
+// A figure: the bytes are answered one after the other, a byte a cycle. The record that this comes to.
+fn figure(name: &[u8], from: Record, bytes: &[u8]) -> Record {
+    say(name);
+    say(b"\n");
+    let mut at = from;
+    let mut n: usize = 0;
+    while n < bytes.len() {
+        let got = cycle((n % 100) as u32 + 1, at, bytes[n]);
+        let Answer::Next(next) = got else {
+            say_refusal(refusal_of(got));
+            return at;
+        };
+        at = next;
+        n += 1;
+    }
+    say_record(at, n);
+    at
+}
+
+// P: M is 20, X 10, D 08, C 01.
+pub fn arithmetic() {
+    figure(
+        b"decimal, 8 bit: 99 + 01, C 0",
+        start(false, 0x38, 0x0099, 0x01FF, 0x8000),
+        b"\x69\x01",
+    );
+    figure(
+        b"decimal, 16 bit: 9999 + 0001, C 0",
+        start(false, 0x08, 0x9999, 0x01FF, 0x8000),
+        b"\x69\x01\x00",
+    );
+    figure(
+        b"decimal, 8 bit: 00 - 01, C 1",
+        start(false, 0x39, 0x0000, 0x01FF, 0x8000),
+        b"\xE9\x01",
+    );
+    figure(
+        b"decimal, 8 bit: 0F + 0F, C 1",
+        start(false, 0x39, 0x000F, 0x01FF, 0x8000),
+        b"\x69\x0F",
+    );
+    figure(
+        b"binary, 8 bit: 7F + 01, C 0",
+        start(false, 0x30, 0x007F, 0x01FF, 0x8000),
+        b"\x69\x01",
+    );
+    figure(
+        b"CMP 16 bit, 1234 with 1235",
+        start(false, 0x00, 0x1234, 0x01FF, 0x8000),
+        b"\xC9\x35\x12",
+    );
+    figure(
+        b"XBA on 8000",
+        start(false, 0x30, 0x8000, 0x01FF, 0x8000),
+        b"\xEB\x00\x00",
+    );
+}
+
+pub fn jumps() {
+    figure(
+        b"BRL at 0000, displacement FFFD",
+        start(false, 0x30, 0, 0x01FF, 0x0000),
+        b"\x82\xFD\xFF\x00",
+    );
+    figure(
+        b"BRA at 80FD, displacement 01, emulation",
+        start(true, 0x30, 0, 0x01FF, 0x80FD),
+        b"\x80\x01\x00\x00",
+    );
+    figure(
+        b"BRA at 80FD, displacement 01, native",
+        start(false, 0x30, 0, 0x01FF, 0x80FD),
+        b"\x80\x01\x00",
+    );
+    figure(
+        b"BRA at 80FC, displacement 01, emulation",
+        start(true, 0x30, 0, 0x01FF, 0x80FC),
+        b"\x80\x01\x00",
+    );
+    figure(
+        b"BRA at 80FC, displacement 01, native",
+        start(false, 0x30, 0, 0x01FF, 0x80FC),
+        b"\x80\x01\x00",
+    );
+    figure(
+        b"RTL, emulation, S 01FE",
+        start(true, 0x30, 0, 0x01FE, 0x8000),
+        b"\x6B\x00\x00\x34\x12\x00",
+    );
+    figure(
+        b"RTS, emulation, S 01FE",
+        start(true, 0x30, 0, 0x01FE, 0x8000),
+        b"\x60\x00\x00\x34\x12\x00",
+    );
+}
+
+pub fn others() {
+    let r = start(false, 0x00, 0, 0x01FF, 0x8000);
+    figure(
+        b"LDA absolute 16 bit, DBR 01, FFFF",
+        Record { dbr: 1, ..r },
+        b"\xAD\xFF\xFF\x78\x56",
+    );
+    figure(
+        b"BIT immediate C0, A 3F, 8 bit, N and V set",
+        start(false, 0xF0, 0x003F, 0x01FF, 0x8000),
+        b"\x89\xC0",
+    );
+    figure(
+        b"JMP (FFFF)",
+        start(false, 0x30, 0, 0x01FF, 0x8000),
+        b"\x6C\xFF\xFF\x34\x12",
+    );
+    figure(
+        b"an opcode that isn't listed",
+        start(false, 0x30, 0, 0x01FF, 0x8000),
+        b"\x00",
+    );
+    figure(
+        b"a record that isn't well formed: emulation, S 0200",
+        start(true, 0x30, 0, 0x0200, 0x8000),
+        b"\xEA",
+    );
+}
+
+// Carry set after the ADC is a wrap up, carry clear after the SBC a wrap down.
+pub fn pairs() {
+    let start = start(false, 0x38, 0x0095, 0x01FF, 0x8000);
+    let up = figure(b"pairs from 95: CLC, ADC #10", start, b"\x18\x00\x69\x10");
+    figure(b"then SEC, SBC #06", up, b"\x38\x00\xE9\x06");
+}
