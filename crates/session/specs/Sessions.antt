@@ -35,11 +35,6 @@ started r = sessionAt r 0
 abbrev pub stepped : Session → (number : ℕ) → Stepped
 stepped s n = record { session = s; number = n }
 
--- the number of a refused answer, or 0
-abbrev pub numbered : Answer → ℕ
-numbered (Next r) = 0
-numbered (Refused n) = numberOf n
-
 -- after an answered byte
 abbrev pub cameTo : Session → Answer → Stepped
 cameTo s (Next r) = stepped (sessionAt r (counted (s .cycles))) 0

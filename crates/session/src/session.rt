@@ -1,7 +1,8 @@
 // The work is done by value. The two entries that change a lent session only take it apart and put it back.
 ghost use mathlib.Core.Path.{_≡_};
 ghost use Rattle.step.specs.Cycle.{requestOf};
-ghost use Rattle.session.specs.Sessions.{counted, countedIf, started, numbered, afterRun, answeredTo, cycledOver, memoryOver};
+ghost use Rattle.step.specs.Answers.{answerNumber};
+ghost use Rattle.session.specs.Sessions.{counted, countedIf, started, afterRun, answeredTo, cycledOver, memoryOver};
 use crate::types::Session;
 use crate::types::Stepped;
 use cpu::record::number;
@@ -39,7 +40,7 @@ fn count(n: u64) -> u64
 }
 
 fn refused_by(a: Answer) -> u8
-    ensures { λ n. ⌜ n ≡ numbered a ⌝ }
+    ensures { λ n. ⌜ n ≡ answerNumber a ⌝ }
 {
     match a {
         Answer::Next(_) => 0,

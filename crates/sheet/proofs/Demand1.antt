@@ -2,7 +2,8 @@
 -- checks first.
 -- What a refusal is given for stands in Refusals; here: the two entries refuse alike, and after a write the byte is ignored.
 use Prim.Native.Nat.{ℕ, _≤_}
-use mathlib.Core.Path.{_≡_, refl, sym, ap, _∙_}
+use mathlib.Core.Path.{_≡_, refl, sym, ap, subst, _∙_}
+use mathlib.Core.Logic.{_⊎_, inl, inr}
 use mathlib.Core.Bool.{Bool, true, false, _&&_}
 use Rattle.cpu.specs.Record.{numberOf}
 use Rattle.cpu.specs.declared.types.Record.{Record}
@@ -28,6 +29,7 @@ use Rattle.cycles.specs.declared.types.Micro.{Micro}
 use Rattle.cycles.specs.declared.types.Micro.the-variants.{Refuse, Fetch, Held}
 use Rattle.bus.specs.Bus.{askOf}
 use Rattle.act.specs.Act.{midAfter, regsAfter, wayOf, actOf}
+use Rattle.step.specs.Answers.{answerNumber}
 use Rattle.step.specs.Cycle.{microOf, askedBy, answeredBy, requestOf, answerOf}
 use Rattle.sheet.proofs.Walk.{and-left, and-right, false-true}
 use Rattle.sheet.proofs.Rows.{writing, deafMove, deafChange, deafTo, fine, silent, inOrder, micro-in-order}
@@ -57,6 +59,15 @@ question r (No n) e = declined n refl (request-numbers r n e .0) (request-number
 
 pub demand-1-request : (r : Record) → Question (requestOf r)
 demand-1-request r = question r (requestOf r) refl
+
+-- In document 01's numbers: 0 for accepted, or 4 to 6.
+numbers : (a : Answer) → Outcome a → (answerNumber a ≡ 0) ⊎ ((4 ≤ answerNumber a) × (answerNumber a ≤ 6))
+numbers a (accepted s e) = inl (ap answerNumber e)
+numbers a (refused n e p q) =
+    inr (subst (λ (x : Answer). (4 ≤ answerNumber x) × (answerNumber x ≤ 6)) (sym e) (p, q))
+
+pub demand-1-numbers : (r : Record) (b : ℕ) → let n : ℕ = answerNumber (answerOf r b) in (n ≡ 0) ⊎ ((4 ≤ n) × (n ≤ 6))
+demand-1-numbers r b = numbers (answerOf r b) (demand-1 r b)
 
 -- ---- what the request refuses, the answer refuses, whatever the byte
 refused-by : (m : Micro) (r : Record) (b : ℕ) (n : Refusal) → askedBy m r ≡ No n → answeredBy m r b ≡ Refused n
