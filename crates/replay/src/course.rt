@@ -117,16 +117,16 @@ pub fn run(text: &[u8], p: Places) -> Course {
     let mut done: usize = 0;
     while done < count {
         let met = turn(text, at, done, r);
+        done += 1;
         let Met::Agreed(next) = met else {
             return Course {
                 met: met,
-                cycle: done + 1,
+                cycle: done,
                 at: at,
             };
         };
         r = next;
         at = past(cycle_end(text, at), 1);
-        done += 1;
     }
     Course {
         met: Met::Agreed(r),

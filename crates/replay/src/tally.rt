@@ -128,7 +128,7 @@ fn end_line(t: Tally, room: &[u8], counts: &mut [u64; 512]) -> Tally {
     if size > room.len() {
         return t;
     }
-    let done = take_line(t, &room[..size], counts);
+    let done = take_line(t, &room[0..size], counts);
     Tally {
         number: more(done.number),
         size: 0,
