@@ -1,5 +1,4 @@
 use borrow.Author.Needs.{needs}
-use native.Mathlib.Omega.{arith}
 use Prim.Native.Nat.{_-_}
 use Rattle.replay.proofs.course.run.Statement.{statement}
 use Rattle.replay.proofs.course.run.Tie as tie

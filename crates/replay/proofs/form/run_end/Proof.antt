@@ -1,5 +1,4 @@
 use borrow.Author.Needs.{needs}
-use native.Mathlib.Omega.{arith}
 use Rattle.replay.proofs.form.run_end.Statement.{statement}
 use Rattle.replay.proofs.form.run_end.Tie as tie
 

@@ -1,5 +1,4 @@
 use borrow.Author.Needs.{needs}
-use native.Mathlib.Omega.{arith}
 use Prim.Native.Nat.{_-_}
 use Rattle.replay.proofs.form.span_of.Statement.{statement}
 use Rattle.replay.proofs.form.span_of.Tie as tie

@@ -1,5 +1,4 @@
 use borrow.Author.Needs.{needs}
-use native.Mathlib.Omega.{arith}
 use Prim.Native.Nat.{_-_}
 use Rattle.replay.proofs.tally.finish.Statement.{statement}
 use Rattle.replay.proofs.tally.finish.Tie as tie
