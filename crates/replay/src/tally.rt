@@ -1,0 +1,183 @@
+// The lines, taken from the file's bytes one after the other, and what they come to.
+use crate::course::is_same;
+use crate::course::run;
+use crate::form::Fault;
+use crate::form::Line;
+use crate::form::Places;
+use crate::form::read;
+use crate::report::block;
+use crate::report::malformed;
+use crate::report::opcode_total;
+use crate::report::say;
+use crate::report::total;
+use crate::text::byte_of;
+use crate::text::is_at;
+use crate::text::past;
+use libc::STDERR_FILENO;
+use std::num::wrapping_add_u64;
+
+// The number of the line that is being read and how much of it has come; then what the lines before it came to.
+pub struct Tally {
+    pub number: u64,
+    pub size: usize,
+    pub agree: u64,
+    pub differ: u64,
+    pub bad: u64,
+}
+
+pub fn start() -> Tally {
+    Tally {
+        number: 1,
+        size: 0,
+        agree: 0,
+        differ: 0,
+        bad: 0,
+    }
+}
+
+fn more(n: u64) -> u64 {
+    wrapping_add_u64(n, 1)
+}
+
+// Cases and malformed lines.
+fn lines(t: Tally) -> u64 {
+    wrapping_add_u64(wrapping_add_u64(t.agree, t.differ), t.bad)
+}
+
+// `counts` has the cases replayed, by opcode, and from here on those that differ.
+const DIFFERING: usize = 256;
+
+fn count(counts: &mut [u64; 512], i: usize) {
+    if i < 512 {
+        let n = counts[i];
+        counts[i] = more(n);
+    }
+}
+
+fn count_of(counts: &[u64; 512], i: usize) -> u64 {
+    if i < 512 { counts[i] } else { 0 }
+}
+
+// A sign of life on long work.
+fn progress(n: u64) {
+    if n % 100000 == 0 {
+        io::print_decimal(STDERR_FILENO, n);
+        io::write_all(STDERR_FILENO, b" lines\n");
+    }
+}
+
+// Whether a case agrees. If not, it is shown where it is one of the first 20.
+fn judge(t: Tally, text: &[u8], p: Places) -> bool {
+    let c = run(text, p);
+    if is_same(text, p, c) {
+        return true;
+    }
+    if t.differ < 20 {
+        block(t.number, text, p, c);
+    } else if t.differ == 20 {
+        say(b"more blocks differ; only 20 are shown\n");
+    }
+    false
+}
+
+fn take_case(t: Tally, text: &[u8], p: Places, counts: &mut [u64; 512]) -> Tally {
+    let opcode = byte_of(text, 0) as usize;
+    count(counts, opcode);
+    if judge(t, text, p) {
+        Tally {
+            agree: more(t.agree),
+            ..t
+        }
+    } else {
+        count(counts, past(DIFFERING, opcode));
+        Tally {
+            differ: more(t.differ),
+            ..t
+        }
+    }
+}
+
+fn take_malformed(t: Tally, f: Fault) -> Tally {
+    malformed(t.number, f);
+    Tally {
+        bad: more(t.bad),
+        ..t
+    }
+}
+
+// A line without its end. Comments and empty lines are passed over.
+fn take_line(t: Tally, text: &[u8], counts: &mut [u64; 512]) -> Tally {
+    if text.len() == 0 {
+        return t;
+    }
+    if is_at(text, 0, b'#') {
+        return t;
+    }
+    let line = read(text, 1023);
+    let done = match line {
+        Line::Case(p) => take_case(t, text, p, counts),
+        Line::Malformed(f) => take_malformed(t, f),
+    };
+    progress(lines(done));
+    done
+}
+
+// The line that has come, which stands in `room`.
+fn end_line(t: Tally, room: &[u8], counts: &mut [u64; 512]) -> Tally {
+    let size = t.size;
+    if size > room.len() {
+        return t;
+    }
+    let done = take_line(t, &room[0..size], counts);
+    Tally {
+        number: more(done.number),
+        size: 0,
+        ..done
+    }
+}
+
+// One byte more of a line. `room` has one byte more than a line may have: one that fills it is too long, and what follows is dropped.
+fn keep(t: Tally, room: &mut [u8], b: u8) -> Tally {
+    let size = t.size;
+    if size >= room.len() {
+        return t;
+    }
+    room[size] = b;
+    Tally {
+        size: size + 1,
+        ..t
+    }
+}
+
+fn take_byte(t: Tally, b: u8, room: &mut [u8], counts: &mut [u64; 512]) -> Tally {
+    if b == b'\n' {
+        end_line(t, room, counts)
+    } else {
+        keep(t, room, b)
+    }
+}
+
+pub fn take_bytes(from: Tally, bytes: &[u8], room: &mut [u8], counts: &mut [u64; 512]) -> Tally {
+    let mut t = from;
+    let mut i: usize = 0;
+    while i < bytes.len() {
+        t = take_byte(t, bytes[i], room, counts);
+        i += 1;
+    }
+    t
+}
+
+// The file's end: a last line without a line end counts.
+pub fn finish(t: Tally, room: &[u8], counts: &mut [u64; 512]) {
+    let done = end_line(t, room, counts);
+    let mut opcode: usize = 0;
+    while opcode < 256 {
+        opcode_total(
+            opcode as u8,
+            count_of(counts, opcode),
+            count_of(counts, past(DIFFERING, opcode)),
+        );
+        opcode += 1;
+    }
+    total(lines(done), done.agree, done.differ, done.bad);
+}
