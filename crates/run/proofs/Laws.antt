@@ -89,27 +89,33 @@ left-all e = record { number = refl; rec = refl; mem = refl; count = omega arith
 left-more : (d : ℕ) (w e : End) (l : Request) → Left d w (more l e) → Left (d + 1) w e
 left-more d w e l h = record { number = h .number; rec = h .rec; mem = h .mem; count = omega (arith, h .count) }
 
+-- ---- the next cycle, after d of b: t is what the turn answered, m′ the memory that it left
+
 one-less : (b d : ℕ) → d < b → b - d ≡ suc (b - (d + 1))
 one-less b d h = omega arith
-
--- at a completed cycle: t is what the turn answered, m′ the memory that it left
-pub left-done : (b d : ℕ) (w : End) (r s : Record) (m m′ : List ℕ) (l : Request) (t : Turn) → d < b → t ≡ cycleOf r m → m′ ≡ storeOf t m → t ≡ Done l s → Left d w (runOf (b - d) r m) → Left (d + 1) w (runOf (b - (d + 1)) s m′)
-left-done b d w r s m m′ l t h e f g a =
-    let x : runOf (b - d) r m ≡ more l (runOf (b - (d + 1)) s m′) = rw (one-less b d h, f, g) (run-done _ r s m l (sym e ∙ g)) in
-    left-more d w _ l (rw x at a)
-
--- at a refusal, which changed no memory
-pub left-stop : (b d : ℕ) (w : End) (r : Record) (m m′ : List ℕ) (k : Refusal) (t : Turn) → d < b → t ≡ cycleOf r m → m′ ≡ storeOf t m → t ≡ Stop k → Left d w (runOf (b - d) r m) → Left d w (ends (numberOf k) r m′)
-left-stop b d w r m m′ k t h e f g a =
-    let x : runOf (b - d) r m ≡ ends (numberOf k) r m′ = rw (one-less b d h, f, g) (run-stop _ r m k (sym e ∙ g)) in
-    rw x at a
 
 none-left : (b d : ℕ) → b ≤ d → b - d ≡ 0
 none-left b d h = omega arith
 
+pub next-done : (b d : ℕ) (r s : Record) (m m′ : List ℕ) (l : Request) (t : Turn) → d < b → t ≡ cycleOf r m → m′ ≡ storeOf t m → t ≡ Done l s → runOf (b - d) r m ≡ more l (runOf (b - (d + 1)) s m′)
+next-done b d r s m m′ l t h e f g = rw (one-less b d h, f, g) (run-done _ r s m l (sym e ∙ g))
+
+-- a refusal changed no memory
+pub next-stop : (b d : ℕ) (r : Record) (m m′ : List ℕ) (k : Refusal) (t : Turn) → d < b → t ≡ cycleOf r m → m′ ≡ storeOf t m → t ≡ Stop k → runOf (b - d) r m ≡ ends (numberOf k) r m′
+next-stop b d r m m′ k t h e f g = rw (one-less b d h, f, g) (run-stop _ r m k (sym e ∙ g))
+
+pub next-none : (b d : ℕ) (r : Record) (m : List ℕ) → b ≤ d → runOf (b - d) r m ≡ ends 0 r m
+next-none b d r m h = rw (none-left b d h, run-none r m)
+
+pub left-done : (b d : ℕ) (w : End) (r s : Record) (m m′ : List ℕ) (l : Request) (t : Turn) → d < b → t ≡ cycleOf r m → m′ ≡ storeOf t m → t ≡ Done l s → Left d w (runOf (b - d) r m) → Left (d + 1) w (runOf (b - (d + 1)) s m′)
+left-done b d w r s m m′ l t h e f g a = left-more d w _ l (rw (next-done b d r s m m′ l t h e f g) at a)
+
+pub left-stop : (b d : ℕ) (w : End) (r : Record) (m m′ : List ℕ) (k : Refusal) (t : Turn) → d < b → t ≡ cycleOf r m → m′ ≡ storeOf t m → t ≡ Stop k → Left d w (runOf (b - d) r m) → Left d w (ends (numberOf k) r m′)
+left-stop b d w r m m′ k t h e f g a = rw (next-stop b d r m m′ k t h e f g) at a
+
 -- with the budget used up
 pub left-end : (b d : ℕ) (w : End) (r : Record) (m : List ℕ) → b ≤ d → Left d w (runOf (b - d) r m) → Left d w (ends 0 r m)
-left-end b d w r m h a = rw (none-left b d h, run-none r m) at a
+left-end b d w r m h a = rw (next-none b d r m h) at a
 
 -- what is answered then
 pub left-told : (d k : ℕ) (w : End) (r : Record) (m : List ℕ) → Left d w (ends k r m) → outcome k d r ≡ told w

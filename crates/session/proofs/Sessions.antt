@@ -19,7 +19,8 @@ use Rattle.memory.specs.declared.types.Turn.{Turn}
 use Rattle.memory.specs.declared.types.Turn.the-variants.{Done, Stop}
 use Rattle.run.specs.Runs.{End, ends, runOf, wholeRun, size, most}
 use Rattle.run.proofs.Laws.{run-done, run-stop, run-none, accepted, refused-1}
-use Rattle.run.proofs.TwoRuns.{refusal-numbered, cut}
+use Rattle.run.proofs.Counted.{refusal-numbered}
+use Rattle.run.proofs.TwoRuns.{cut}
 use Rattle.session.specs.declared.types.Session.{Session}
 use Rattle.session.specs.declared.types.Stepped.{Stepped}
 use Rattle.session.specs.Sessions.{top, counted, cameTo, answeredTo, cycledOver, memoryOver}

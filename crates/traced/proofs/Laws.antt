@@ -22,58 +22,10 @@ use Rattle.memory.specs.declared.types.Turn.the-variants.{Done, Stop}
 use Rattle.trace.specs.Text.{lineText, linesText, header, over, Put, Wrote}
 use Rattle.trace.proofs.Laws.{then, lines-short, Rest, rest-all, rest-none, rest-line}
 use Rattle.run.specs.Runs.{End, ends, more, runOf, size, most}
-use Rattle.run.proofs.Laws.{Left, left-all, left-done, run-done, run-stop, run-none, still-well}
-use Rattle.run.proofs.TwoRuns.{refusal-numbered}
+use Rattle.run.proofs.Laws.{Left, left-all, left-done, run-done, run-stop, run-none, next-done, next-stop, next-none, still-well}
+use Rattle.run.proofs.Counted.{run-count}
 use Rattle.traced.specs.declared.types.Traced.{Traced}
 use Rattle.traced.specs.Traces.{head, pieceText, roomOf, untouched, textOf, pieceOf, wholePiece, tracedAs, malformedAt, Tells, Listed}
-
--- ---- what a run keeps and counts, by what its first cycle comes to
-
-stored-size : (w : Bool) (m : List ℕ) (i b : ℕ) → length (pick w (set m i b) m) ≡ length m
-stored-size true m i b = length-set m i b
-stored-size false m i b = refl
-
-size-turn : (n : ℕ) (r : Record) (m : List ℕ) (t : Turn) → ((s : Record) (m′ : List ℕ) → length (runOf n s m′ .mem) ≡ length m′) → cycleOf r m ≡ t → length (runOf (suc n) r m .mem) ≡ length m
-size-turn n r m (Done l s) go e = rw (run-done n r s m l e) (go s (storeLine l m) ∙ stored-size (l .write) m (l .addr) (l .byte))
-size-turn n r m (Stop k) go e = rw (run-stop n r m k e)
-
-pub run-size : (n : ℕ) (r : Record) (m : List ℕ) → length (runOf n r m .mem) ≡ length m
-run-size zero r m = rw (run-none r m)
-run-size (suc n) r m = size-turn n r m (cycleOf r m) (λ s m′. run-size n s m′) refl
-
--- no more lines than cycles asked for
-count-turn : (n : ℕ) (r : Record) (m : List ℕ) (t : Turn) → ((s : Record) (m′ : List ℕ) → length (runOf n s m′ .lines) ≤ n) → cycleOf r m ≡ t → length (runOf (suc n) r m .lines) ≤ suc n
-count-turn n r m (Done l s) go e = rw (run-done n r s m l e) (omega (arith, go s (storeLine l m)))
-count-turn n r m (Stop k) go e = rw (run-stop n r m k e) (omega arith)
-
-pub run-count : (n : ℕ) (r : Record) (m : List ℕ) → length (runOf n r m .lines) ≤ n
-run-count zero r m = rw (run-none r m) (omega arith)
-run-count (suc n) r m = count-turn n r m (cycleOf r m) (λ s m′. run-count n s m′) refl
-
--- all of them where none was refused
-all-turn : (n : ℕ) (r : Record) (m : List ℕ) (t : Turn) → ((s : Record) (m′ : List ℕ) → runOf n s m′ .number ≡ 0 → length (runOf n s m′ .lines) ≡ n) → cycleOf r m ≡ t → runOf (suc n) r m .number ≡ 0 → length (runOf (suc n) r m .lines) ≡ suc n
-all-turn n r m (Done l s) go e h =
-    let a = run-done n r s m l e in
-    rw a (ap suc (go s (storeLine l m) (rw a at h)))
-all-turn n r m (Stop k) go e h = absurd (refusal-numbered k (rw (run-stop n r m k e) at h))
-
-pub run-all : (n : ℕ) (r : Record) (m : List ℕ) → runOf n r m .number ≡ 0 → length (runOf n r m .lines) ≡ n
-run-all zero r m h = rw (run-none r m)
-run-all (suc n) r m h = all-turn n r m (cycleOf r m) (λ s m′ k. run-all n s m′ k) refl h
-
--- ---- a run's next cycle, after d of b
-
-one-less : (b d : ℕ) → d < b → b - d ≡ suc (b - (d + 1))
-one-less b d h = omega arith
-
-none-left : (b d : ℕ) → b ≤ d → b - d ≡ 0
-none-left b d h = omega arith
-
-next-done : (b d : ℕ) (r s : Record) (m m′ : List ℕ) (l : Request) (t : Turn) → d < b → t ≡ cycleOf r m → m′ ≡ storeOf t m → t ≡ Done l s → runOf (b - d) r m ≡ more l (runOf (b - (d + 1)) s m′)
-next-done b d r s m m′ l t h e f g = rw (one-less b d h, f, g) (run-done _ r s m l (sym e ∙ g))
-
-next-stop : (b d : ℕ) (r : Record) (m m′ : List ℕ) (k : Refusal) (t : Turn) → d < b → t ≡ cycleOf r m → m′ ≡ storeOf t m → t ≡ Stop k → runOf (b - d) r m ≡ ends (numberOf k) r m′
-next-stop b d r m m′ k t h e f g = rw (one-less b d h, f, g) (run-stop _ r m k (sym e ∙ g))
 
 -- ---- the loop: after d of b cycles from r₀ over m₀, whose lines go to place p₀ of t₀, numbered on from `before`
 
@@ -131,7 +83,7 @@ module _ (b before : ℕ) (m₀ t₀ : List ℕ) (p₀ : ℕ) (r₀ : Record) (m
   going-stop m′ k c h e f g = listed (numberOf k) m′ (next-stop b d r m m′ k c h e f g)
 
   pub going-end : b ≤ d → Listed (runOf b r₀ m₀) (before + 1) p₀ t₀ (tracedAs 0 d p r) m t
-  going-end h = listed 0 m (rw (none-left b d h) (run-none r m))
+  going-end h = listed 0 m (next-none b d r m h)
 
 -- ---- a record that isn't well formed
 

@@ -17,7 +17,8 @@ use Rattle.trace.proofs.Laws.{lines-append}
 use Rattle.run.specs.Runs.{End, ends, joined, runOf, wholeRun, size, most}
 use Rattle.run.proofs.TwoRuns.{cut}
 use Rattle.traced.specs.Traces.{head, pieceText, roomOf, Written, untouched, textOf, pieceOf, wholePiece}
-use Rattle.traced.proofs.Laws.{run-size, run-all, piece-short, head-later, accepted}
+use Rattle.run.proofs.Counted.{run-size, run-all}
+use Rattle.traced.proofs.Laws.{piece-short, head-later, accepted}
 
 -- ---- a traced run is the run
 

@@ -1,0 +1,447 @@
+//! The proved library beside the crate w65c816 0.1.17, built unchanged from its source: the same starts, the same bytes, every request, byte,
+//! count and record compared. A listed difference (docs/DIFFERENCES.md) is a rule that computes the crate's answer from ours; an answer that is
+//! neither ours nor the rule's fails, and so does a rule that a full run never meets.
+//!
+//! judge SEED CASES PROGRAMS [short]: CASES random starts for each opcode and mode, PROGRAMS random programs over bank 0.
+use std::process::exit;
+use w65c816::{AddressType, Signals, System, CPU};
+
+extern "C" {
+    fn glavorint_request(record: *const u8, len: usize) -> u64;
+    fn glavorint_answer(record: *mut u8, len: usize, byte: u8) -> u8;
+    fn glavorint_run(record: *mut u8, len: usize, memory: *mut u8, size: usize, budget: u32) -> u64;
+    #[rustfmt::skip]
+    fn glavorint_trace(record: *mut u8, len: usize, memory: *mut u8, size: usize, text: *mut u8, room: usize, before: u32, budget: u32) -> u64;
+}
+
+/// Document 01's list.
+const TAKEN: [u8; 117] = [
+    0x69, 0x6D, 0x65, 0xE9, 0xED, 0xE5, 0xC9, 0xCD, 0xC5, 0x29, 0x2D, 0x25, 0x09, 0x0D, 0x05, 0x49, 0x4D, 0x45, 0x89, 0x2C, 0x24, 0xA9, 0xAD,
+    0xA5, 0xA2, 0xAE, 0xA6, 0xA0, 0xAC, 0xA4, 0xE0, 0xEC, 0xE4, 0xC0, 0xCC, 0xC4, 0x8D, 0x85, 0x8E, 0x86, 0x8C, 0x84, 0x9C, 0x64, 0x0A, 0x2A,
+    0x4A, 0x6A, 0x1A, 0x3A, 0x18, 0x38, 0x58, 0x78, 0xB8, 0xD8, 0xF8, 0xEA, 0xFB, 0xEB, 0xAA, 0xA8, 0xBA, 0x8A, 0x9A, 0x9B, 0x98, 0xBB, 0x5B,
+    0x1B, 0x7B, 0x3B, 0xE8, 0xC8, 0xCA, 0x88, 0xC2, 0xE2, 0x42, 0x54, 0x44, 0x10, 0x30, 0x50, 0x70, 0x90, 0xB0, 0xD0, 0xF0, 0x80, 0x82, 0x4C,
+    0x6C, 0x7C, 0x5C, 0xDC, 0x20, 0xFC, 0x22, 0x60, 0x6B, 0x48, 0xDA, 0x5A, 0x08, 0x8B, 0x0B, 0x4B, 0x68, 0xFA, 0x7A, 0x28, 0xAB, 0x2B, 0xF4,
+    0xD4, 0x62,
+];
+
+/// What the programmer sees; P with M and X as they are.
+#[derive(Clone, Copy, PartialEq, Debug)]
+struct State {
+    a: u16,
+    x: u16,
+    y: u16,
+    s: u16,
+    d: u16,
+    pc: u16,
+    pbr: u8,
+    dbr: u8,
+    p: u8,
+    e: bool,
+}
+
+/// One access: kind, direction, address, byte.
+#[derive(Clone, Copy, PartialEq, Debug)]
+struct Access {
+    kind: u8,
+    write: bool,
+    addr: u32,
+    byte: u8,
+}
+
+// ---- our side
+
+struct Ours {
+    bytes: [u8; 32],
+}
+
+impl Ours {
+    fn at(s: &State) -> Ours {
+        let mut bytes = [0; 32];
+        bytes[0] = 1;
+        for (i, w) in [s.a, s.x, s.y, s.s, s.d, s.pc].iter().enumerate() {
+            bytes[4 + 2 * i..6 + 2 * i].copy_from_slice(&w.to_le_bytes());
+        }
+        bytes[16..20].copy_from_slice(&[s.pbr, s.dbr, s.p, s.e as u8]);
+        Ours { bytes }
+    }
+
+    fn word(&self, i: usize) -> u16 {
+        u16::from_le_bytes([self.bytes[i], self.bytes[i + 1]])
+    }
+
+    fn state(&self) -> State {
+        State {
+            a: self.word(4),
+            x: self.word(6),
+            y: self.word(8),
+            s: self.word(10),
+            d: self.word(12),
+            pc: self.word(14),
+            pbr: self.bytes[16],
+            dbr: self.bytes[17],
+            p: self.bytes[18],
+            e: self.bytes[19] != 0,
+        }
+    }
+
+    /// At an instruction's start, or between a move's bytes.
+    fn ended(&self) -> bool {
+        self.bytes[1] == 0 || self.bytes[3] == 0
+    }
+
+    fn request(&self) -> Result<Access, u8> {
+        let q = unsafe { glavorint_request(self.bytes.as_ptr(), 32) };
+        match (q >> 48) as u8 {
+            0 => Ok(Access { kind: (q >> 32) as u8, write: q >> 40 & 1 == 1, addr: q as u32 & 0xFF_FFFF, byte: (q >> 24) as u8 }),
+            n => Err(n),
+        }
+    }
+
+    fn answer(&mut self, byte: u8) -> u8 {
+        unsafe { glavorint_answer(self.bytes.as_mut_ptr(), 32, byte) }
+    }
+}
+
+// ---- the crate's side
+
+fn kind_of(t: AddressType) -> u8 {
+    match t {
+        AddressType::Opcode => 0,
+        AddressType::Program => 1,
+        AddressType::Data => 2,
+        AddressType::Invalid => 3,
+        AddressType::Vector => 4,
+    }
+}
+
+/// A bus that answers one byte, whatever is asked, and keeps what was asked.
+struct Wire {
+    byte: u8,
+    seen: Option<Access>,
+    reset: bool,
+}
+
+impl System for Wire {
+    fn read(&mut self, addr: u32, t: AddressType, _: &Signals) -> u8 {
+        self.seen = Some(Access { kind: kind_of(t), write: false, addr, byte: self.byte });
+        self.byte
+    }
+    fn write(&mut self, addr: u32, byte: u8, t: AddressType, _: &Signals) {
+        self.seen = Some(Access { kind: kind_of(t), write: true, addr, byte });
+    }
+    fn res(&mut self) -> bool {
+        self.reset
+    }
+}
+
+/// The crate reaches an instruction's start only by a reset; its last cycle is the vector's second byte.
+fn reset() -> CPU {
+    let mut cpu = CPU::new();
+    let mut wire = Wire { byte: 0, seen: None, reset: true };
+    cpu.cycle(&mut wire);
+    wire.reset = false;
+    while wire.seen.map_or(true, |a| a.addr != 0xFFFD) {
+        cpu.cycle(&mut wire);
+    }
+    cpu
+}
+
+fn place(cpu: &CPU, s: &State) -> CPU {
+    let mut c = cpu.clone();
+    c.set_e(s.e);
+    c.set_p(s.p);
+    c.set_c(s.a);
+    c.set_x(s.x);
+    c.set_y(s.y);
+    c.set_s(s.s);
+    c.set_d(s.d);
+    c.set_pc(s.pc);
+    c.set_pbr(s.pbr);
+    c.set_dbr(s.dbr);
+    c
+}
+
+fn seen_state(c: &CPU) -> State {
+    State { a: c.c(), x: c.x(), y: c.y(), s: c.s(), d: c.d(), pc: c.pc(), pbr: c.pbr(), dbr: c.dbr(), p: c.p(), e: c.signals().e() }
+}
+
+// ---- the listed differences: the crate's access, from ours
+
+const RULES: [&str; 4] = [
+    "accumulator: no access in the second cycle",
+    "PER: the internal cycle asks past the operand",
+    "16-bit absolute store at xxFFFF: the high byte stays in the bank",
+    "16-bit absolute read at FFFFFF: the second byte at 1000000",
+];
+
+/// Which rule speaks of our access in this cycle of an instruction, and what the crate does instead.
+fn rule(op: u8, cycle: usize, q: Access, dbr: u8) -> Option<(usize, Option<Access>)> {
+    let next = Access { addr: q.addr & 0xFF_0000 | (q.addr + 1) & 0xFFFF, ..q };
+    match (op, cycle) {
+        (0x0A | 0x1A | 0x2A | 0x3A | 0x4A | 0x6A, 1) => Some((0, None)),
+        (0x62, 3) => Some((1, Some(next))),
+        (0x8C | 0x8D | 0x8E | 0x9C, 4) if q.addr & 0xFFFF == 0 => Some((2, Some(Access { addr: (dbr as u32) << 16, ..q }))),
+        (_, 4) if q.kind == 2 && !q.write && q.addr == 0 && dbr == 0xFF => Some((3, Some(Access { addr: 0x100_0000, ..q }))),
+        _ => None,
+    }
+}
+
+#[derive(Default)]
+struct Tally {
+    cycles: u64,
+    starts: u64,
+    lines: u64,
+    hits: [u64; 4],
+}
+
+fn fail(what: &str, from: &dyn std::fmt::Debug, ours: &dyn std::fmt::Debug, theirs: &dyn std::fmt::Debug) -> ! {
+    println!("judge: {what}\n  from   {from:x?}\n  ours   {ours:x?}\n  crate  {theirs:x?}");
+    exit(1)
+}
+
+/// Our access and the crate's, in this cycle of an instruction.
+fn same_access(t: &mut Tally, from: &State, op: u8, cycle: usize, dbr: u8, q: Access, theirs: Option<Access>) {
+    match rule(op, cycle, q, dbr) {
+        Some((n, expected)) if expected == theirs => t.hits[n] += 1,
+        _ if theirs == Some(q) => {}
+        _ => fail("the requests differ", &(from, op, cycle), &q, &theirs),
+    }
+}
+
+/// One instruction, or one byte of a move, with bytes by number; every request and every register after every cycle.
+fn instruction(t: &mut Tally, cpu: &CPU, from: &State, byte: &mut dyn FnMut(usize) -> u8) {
+    let (mut ours, mut theirs) = (Ours::at(from), place(cpu, from));
+    let mut op = 0;
+    t.starts += 1;
+    for cycle in 0..9 {
+        let b = byte(cycle);
+        if cycle == 0 {
+            op = b;
+        }
+        let before = ours.state();
+        let q = ours.request().unwrap_or_else(|n| fail("refused", from, &n, &cycle));
+        let mut wire = Wire { byte: b, seen: None, reset: false };
+        theirs.cycle(&mut wire);
+        let q = if q.write { q } else { Access { byte: b, ..q } };
+        same_access(t, from, op, cycle, before.dbr, q, wire.seen);
+        let n = ours.answer(b);
+        if n != 0 {
+            fail("refused", &(from, op), &n, &cycle);
+        }
+        if ours.state() != seen_state(&theirs) {
+            fail("the records differ", &(from, op, cycle), &ours.state(), &seen_state(&theirs));
+        }
+        t.cycles += 1;
+        if ours.ended() {
+            return;
+        }
+    }
+    fail("no end after nine cycles", &(from, op), &ours.state(), &())
+}
+
+// ---- starts
+
+struct Random(u64);
+
+impl Random {
+    fn next(&mut self) -> u64 {
+        self.0 ^= self.0 << 13;
+        self.0 ^= self.0 >> 7;
+        self.0 ^= self.0 << 17;
+        self.0.wrapping_mul(0x2545_F491_4F6C_DD1D) >> 16
+    }
+    fn byte(&mut self) -> u8 {
+        let edges = [0x00, 0x01, 0x7F, 0x80, 0xFE, 0xFF, 0x99, 0x0F];
+        match self.next() % 3 {
+            0 => edges[self.next() as usize % edges.len()],
+            _ => self.next() as u8,
+        }
+    }
+    fn word(&mut self) -> u16 {
+        let edges = [0x0000, 0x0001, 0x00FF, 0x0100, 0x01FF, 0x0200, 0x7FFF, 0x8000, 0xFFFD, 0xFFFE, 0xFFFF];
+        match self.next() % 3 {
+            0 => edges[self.next() as usize % edges.len()],
+            _ => u16::from_le_bytes([self.byte(), self.byte()]),
+        }
+    }
+    /// A well-formed start: mode 0 is emulation, the others native by their widths.
+    fn start(&mut self, mode: u8) -> State {
+        let e = mode == 0;
+        let (m, x) = [(true, true), (true, true), (true, false), (false, true), (false, false)][mode as usize];
+        let narrow = |v: u16| if x { v & 0xFF } else { v };
+        let (sx, sy, s) = (self.word(), self.word(), self.word());
+        State {
+            a: self.word(),
+            x: narrow(sx),
+            y: narrow(sy),
+            s: if e { 0x100 | s & 0xFF } else { s },
+            d: self.word(),
+            pc: self.word(),
+            pbr: self.byte(),
+            dbr: self.byte(),
+            p: self.next() as u8 & 0xCF | (m as u8) << 5 | (x as u8) << 4,
+            e,
+        }
+    }
+}
+
+/// Every opcode in every mode, from random starts with edges.
+fn opcodes(t: &mut Tally, cpu: &CPU, r: &mut Random, cases: usize) {
+    for op in TAKEN {
+        for mode in 0..5 {
+            for _ in 0..cases {
+                let from = r.start(mode);
+                instruction(t, cpu, &from, &mut |k| if k == 0 { op } else { r.byte() });
+            }
+        }
+    }
+}
+
+/// All operands of 8-bit ADC, SBC and CMP, and of the shifts, with both carries and both D.
+fn exhaustive(t: &mut Tally, cpu: &CPU) {
+    let from = |a: u16, carry: u8, decimal: u8| State { a, x: 0, y: 0, s: 0x1FF, d: 0, pc: 0x8000, pbr: 0, dbr: 0, p: 0x30 | decimal << 3 | carry, e: false };
+    for (carry, decimal) in [(0, 0), (1, 0), (0, 1), (1, 1)] {
+        for a in 0..256 {
+            for b in 0..=255 {
+                for op in [0x69, 0xE9, 0xC9] {
+                    instruction(t, cpu, &from(a, carry, decimal), &mut |k| if k == 0 { op } else { b });
+                }
+            }
+            for op in [0x0A, 0x2A, 0x4A, 0x6A, 0x1A, 0x3A] {
+                instruction(t, cpu, &from(a, carry, decimal), &mut |k| if k == 0 { op } else { 0 });
+            }
+        }
+    }
+}
+
+// ---- programs over bank 0
+
+/// A memory that answers the crate, and keeps what crossed the bus.
+struct Bank {
+    memory: Vec<u8>,
+    seen: Option<Access>,
+}
+
+impl System for Bank {
+    fn read(&mut self, addr: u32, t: AddressType, _: &Signals) -> u8 {
+        let byte = self.memory[addr as usize & 0xFFFF];
+        self.seen = Some(Access { kind: kind_of(t), write: false, addr, byte });
+        byte
+    }
+    fn write(&mut self, addr: u32, byte: u8, t: AddressType, _: &Signals) {
+        self.seen = Some(Access { kind: kind_of(t), write: true, addr, byte });
+        if addr < 0x1_0000 {
+            self.memory[addr as usize] = byte;
+        }
+    }
+}
+
+/// A trace line as an access.
+fn read_line(line: &str) -> Access {
+    let f: Vec<&str> = line.split('\t').collect();
+    Access {
+        kind: "OPDI".find(f[1]).unwrap() as u8,
+        write: f[2] == "W",
+        addr: u32::from_str_radix(f[3], 16).unwrap(),
+        byte: u8::from_str_radix(f[4], 16).unwrap(),
+    }
+}
+
+/// A random program: listed opcodes and random bytes, from a random start in bank 0. Our trace, line by line, beside the crate's cycles.
+fn program(t: &mut Tally, cpu: &CPU, r: &mut Random, budget: u32) {
+    let mut memory: Vec<u8> = (0..65536).map(|_| if r.next() % 4 == 0 { r.byte() } else { TAKEN[r.next() as usize % 117] }).collect();
+    let mode = (r.next() % 5) as u8;
+    let from = State { pbr: 0, dbr: 0, ..r.start(mode) };
+    let (mut ours, mut theirs) = (Ours::at(&from), place(cpu, &from));
+    let mut bank = Bank { memory: memory.clone(), seen: None };
+    let mut text = vec![0u8; 6 + 22 * budget as usize];
+    let said = unsafe {
+        glavorint_trace(ours.bytes.as_mut_ptr(), 32, memory.as_mut_ptr(), memory.len(), text.as_mut_ptr(), text.len(), 0, budget)
+    };
+    let (cycles, written, refusal) = (said as usize & 0xFF_FFFF, (said >> 24) as usize & 0xFFFF_FFFF, (said >> 56) as u8);
+    let text = std::str::from_utf8(&text[..written]).unwrap();
+    let (mut op, mut cycle, mut dbr) = (0, 0, from.dbr);
+    for (i, line) in text.lines().skip(1).enumerate() {
+        let q = read_line(line);
+        if line.split('\t').next() != Some(&(i + 1).to_string()) {
+            fail("a line's number", &from, &line, &(i + 1));
+        }
+        bank.seen = None;
+        if theirs.tcu() == 0xFF || q.kind == 0 {
+            (op, cycle) = (q.byte, 0);
+        }
+        theirs.cycle(&mut bank);
+        same_access(t, &from, op, cycle, dbr, q, bank.seen);
+        dbr = theirs.dbr();
+        cycle += 1;
+        t.lines += 1;
+    }
+    if text.lines().count() != cycles + 1 {
+        fail("the count of lines", &from, &cycles, &text.lines().count());
+    }
+    if ours.state() != seen_state(&theirs) || memory != bank.memory {
+        fail("the ends differ", &from, &ours.state(), &seen_state(&theirs));
+    }
+    // where we stopped, the crate leaves the list, or bank 0
+    bank.seen = None;
+    theirs.cycle(&mut bank);
+    match (refusal, bank.seen) {
+        (0, _) => {}
+        (5, Some(a)) if a.kind == 0 && !TAKEN.contains(&a.byte) => {}
+        (7, Some(a)) if a.addr > 0xFFFF => {}
+        (7, Some(_)) if matches!(op, 0x8C | 0x8D | 0x8E | 0x9C) && cycle == 4 => t.hits[2] += 1,
+        (n, a) => fail("a refusal that the crate doesn't show", &(from, op, cycle), &n, &a),
+    }
+}
+
+/// The limits of document 01's list.
+fn limits() {
+    let from = State { a: 0, x: 0, y: 0, s: 0x1FF, d: 0, pc: 0x8000, pbr: 0, dbr: 0, p: 0x30, e: false };
+    let run = |s: &State, size: usize, budget: u32| {
+        let (mut ours, mut memory) = (Ours::at(s), vec![0xEAu8; size]);
+        let said = unsafe { glavorint_run(ours.bytes.as_mut_ptr(), 32, memory.as_mut_ptr(), size, budget) };
+        ((said >> 32) as u8, said as u32)
+    };
+    let expect = |name: &str, got: (u8, u32), want: (u8, u32)| {
+        if got != want {
+            fail(name, &(), &got, &want)
+        }
+    };
+    expect("memory of 65,535", run(&from, 65535, 1), (1, 0));
+    expect("memory of 65,537", run(&from, 65537, 1), (1, 0));
+    expect("budget 1,000,001", run(&from, 65536, 1_000_001), (2, 0));
+    expect("budget 1,000,000", run(&from, 65536, 1_000_000), (0, 1_000_000));
+    expect("S outside page 1", run(&State { e: true, s: 0x200, ..from }, 65536, 1), (4, 0));
+    expect("X above FF", run(&State { x: 0x100, ..from }, 65536, 1), (4, 0));
+    expect("bank 1", run(&State { pbr: 1, ..from }, 65536, 1), (7, 0));
+    for op in 0..=255u8 {
+        let mut ours = Ours::at(&from);
+        let n = ours.answer(op);
+        expect("a fetched byte", (n, 0), (if TAKEN.contains(&op) { 0 } else { 5 }, 0));
+    }
+}
+
+fn main() {
+    let args: Vec<String> = std::env::args().collect();
+    let number = |i: usize, other: u64| args.get(i).and_then(|a| a.parse().ok()).unwrap_or(other);
+    let (seed, cases, programs) = (number(1, 1), number(2, 200) as usize, number(3, 2000));
+    let short = args.get(4).map_or(false, |a| a == "short");
+    let (cpu, mut r, mut t) = (reset(), Random(seed.wrapping_mul(0x9E37_79B9_7F4A_7C15) | 1), Tally::default());
+    limits();
+    opcodes(&mut t, &cpu, &mut r, cases);
+    if !short {
+        exhaustive(&mut t, &cpu);
+    }
+    for _ in 0..programs {
+        program(&mut t, &cpu, &mut r, 2000);
+    }
+    println!("judge: seed {seed}: {} instructions, {} cycles with every register; {programs} programs, {} trace lines", t.starts, t.cycles, t.lines);
+    for (name, n) in RULES.iter().zip(t.hits) {
+        println!("judge: {n} times: {name}");
+        if n == 0 && !short {
+            println!("judge: a rule that was never met");
+            exit(1);
+        }
+    }
+    println!("judge: no other difference");
+}
