@@ -1,2 +1,4 @@
 pub mod Heard
 pub mod Instructions
+pub mod Sums
+pub mod Delivered
