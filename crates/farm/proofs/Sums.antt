@@ -11,6 +11,7 @@ use Rattle.alu.specs.declared.types.Alu.{Alu}
 use Rattle.alu.specs.declared.types.Alu.the-variants.{Adc, Sbc}
 use Rattle.alu.specs.declared.types.Word.{Word}
 use Rattle.alu.proofs.At8And16.{adc-decimal-8, sbc-decimal-8, adc-decimal-16, sbc-decimal-16}
+use Rattle.cpu.specs.Record.{widthsSet}
 use Rattle.farm.specs.Pairs.{Delivery, Added, Taken, amount, bytesOf, modulus, adds, takes, wrapsUp, wrapsDown}
 
 -- the carry that goes before a delivery, and its operation
@@ -30,14 +31,14 @@ narrow w a = pick w a (lowOf a)
 pub record Leaves (f g : Flags) : Type 0 where
   pub d : g .decimal ≡ f .decimal
   pub m : g .memsel ≡ f .memsel
-  pub e : g .emulation ≡ f .emulation
+  pub widths : widthsSet g ≡ widthsSet f
 
 pub sum-leaves : (w : Bool) (d : Delivery) (a n : ℕ) (f : Flags) → Leaves f (operatedAt (aluFor d) w a n f .flags)
 unfolding adcByte sbcByte summed
-sum-leaves true (Added k) a n f = record { d = refl; m = refl; e = refl }
-sum-leaves false (Added k) a n f = record { d = refl; m = refl; e = refl }
-sum-leaves true (Taken k) a n f = record { d = refl; m = refl; e = refl }
-sum-leaves false (Taken k) a n f = record { d = refl; m = refl; e = refl }
+sum-leaves true (Added k) a n f = record { d = refl; m = refl; widths = refl }
+sum-leaves false (Added k) a n f = record { d = refl; m = refl; widths = refl }
+sum-leaves true (Taken k) a n f = record { d = refl; m = refl; widths = refl }
+sum-leaves false (Taken k) a n f = record { d = refl; m = refl; widths = refl }
 
 -- digits again, and none lost
 pub record Sums (w : Bool) (d : Delivery) (a : ℕ) (r : Word) : Type 0 where
