@@ -108,7 +108,7 @@ reads-sum : (r : Record) (w : Bool) → r .pc < 65536 → Reads (r .pbr) (sumAsk
 reads-sum r true h = (refl, r .pc, refl, h, (refl, inc (r .pc), refl, inc-small _, (refl, up (r .pc) 2, refl, inc-small _, tt)))
 reads-sum r false h = (refl, r .pc, refl, h, (refl, inc (r .pc), refl, inc-small _, tt))
 
-sum-asks-count : (r : Record) (w : Bool) → length (sumAsks r w) ≡ 2 + bit w
+pub sum-asks-count : (r : Record) (w : Bool) → length (sumAsks r w) ≡ 2 + bit w
 sum-asks-count r true = refl
 sum-asks-count r false = refl
 
