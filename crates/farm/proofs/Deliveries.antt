@@ -52,15 +52,16 @@ deliveries w bus [] t r h q fed = (r, record { last = refl; ready = h; bank = re
 deliveries w bus (d ∷ ds) t r h q fed =
     let x = delivered w bus t r h d ds (q .0) fed in
     let i = deliveries w bus ds (later w t) (x .end) (x .ready) (q .1) (x .fed) in
-    let c = i .1 in
-    (i .0,
-    subst (Conserved w r (i .0) (d ∷ ds)) (sym (tally-first w bus t r d ds x)) (record {
-      last = c .last;
-      ready = c .ready;
-      bank = c .bank ∙ x .bank;
-      past =
-        c .past ∙ ap (λ (p : ℕ). up p (length (program w ds))) (x .past) ∙ up-up (r .pc) (pick w 4 3) (length (program w ds))
-        ∙ ap (up (r .pc)) (sym (program-length w d ds));
-      cycles = omega (arith, c .cycles);
-      same = omega (arith, x .same, c .same);
-    }))
+    let c = i .1 in (
+      i .0,
+      subst (Conserved w r (i .0) (d ∷ ds)) (sym (tally-first w bus t r d ds x)) (record {
+        last = c .last;
+        ready = c .ready;
+        bank = c .bank ∙ x .bank;
+        past =
+            c .past ∙ ap (λ (p : ℕ). up p (length (program w ds))) (x .past) ∙ up-up (r .pc) (pick w 4 3) (length (program w ds))
+            ∙ ap (up (r .pc)) (sym (program-length w d ds));
+        cycles = omega (arith, c .cycles);
+        same = omega (arith, x .same, c .same);
+      }),
+    )

@@ -125,6 +125,6 @@ module _ (bus : Bus) (t : ℕ) (r : Record) (well : wellFormed r ≡ true) (star
         let e = at-width k h w wide in record {
           requests = ap (λ (u : Ran). u .requests) e;
           out =
-            ap (λ (u : Ran). u .out) e
-            ∙ ap (λ (g : Regs). Next (ended 0 false (r .pbr) (up (r .pc) (pick w 3 2)) (r .s) (r .dbr) g)) (effect-is w (operand-heard k h w wide) p);
+              ap (λ (u : Ran). u .out) e
+              ∙ ap (λ (g : Regs). Next (ended 0 false (r .pbr) (up (r .pc) (pick w 3 2)) (r .s) (r .dbr) g)) (effect-is w (operand-heard k h w wide) p);
         }

@@ -4,4 +4,6 @@ pub mod Sums
 pub mod Delivered
 pub mod Deliveries
 pub mod Buses
+pub mod OnMemory
 pub mod Demand3
+pub mod Demand3Run

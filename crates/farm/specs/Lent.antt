@@ -26,6 +26,14 @@ pub record Holds (m : List ℕ) (pc : ℕ) (bytes : List ℕ) : Type 0 where
   pub whole : length m ≡ size
   pub byte : (i : ℕ) → i < length bytes → getD m ((pc + i) % 65536) 0 ≡ getD bytes i 0
 
+-- such a memory: n bytes, each by its address
+unfoldable pub filled : (n : ℕ) → (ℕ → ℕ) → List ℕ
+filled zero f = []
+filled (suc n) f = f 0 ∷ filled n (λ a. f (suc a))
+
+abbrev pub memoryOf : (pc : ℕ) → List ℕ → List ℕ
+memoryOf pc bytes = filled size (λ a. getD bytes (placeFrom pc a) 0)
+
 -- how a run of the deliveries ends: not refused, a line for each cycle, the memory as it was, and the tally's last record
 pub record RunConserved (w : Bool) (r : Record) (m : List ℕ) (ds : List Delivery) (e : End) : Type 0 where
   pub number : e .number ≡ 0
