@@ -7,3 +7,4 @@ pub mod Buses
 pub mod OnMemory
 pub mod Demand3
 pub mod Demand3Run
+pub mod Figures
