@@ -1,0 +1,57 @@
+-- Such buses and memories exist: the demand's premises aren't empty.
+use Prim.Native.Nat.{ℕ, zero, suc, _+_, _-_, _*_, _%_, _≤_, _<_}
+use mathlib.Core.Path.{_≡_, refl, ap, sym, subst, _∙_}
+use mathlib.Core.Bool.{Bool, true, false}
+use mathlib.Core.List.{List, [], _∷_}
+use native.Mathlib.Nat.{not-suc-le-zero}
+use native.Mathlib.Omega.{arith}
+use lib.ListN.{length, getD}
+use Rattle.words.specs.Words.{up, sum16, at}
+use Rattle.words.proofs.WordLaws.{up-sum}
+use Rattle.farm.specs.Pairs.{Delivery, mostDeliveries, Bus, Feeds, program}
+use Rattle.farm.specs.Lent.{placeFrom, busOf, filled, memoryOf, Holds}
+use Rattle.farm.proofs.Deliveries.{program-length}
+
+-- byte i lies i past PC, if the bytes fit into a bank
+place-back : (bank pc i : ℕ) → pc < 65536 → i < 65536 → placeFrom pc (at bank (up pc i)) ≡ i
+unfolding at sum16
+place-back bank pc i h k = rw (up-sum pc i h) (omega arith)
+
+-- For every list of bytes that fits into a bank there is a bus that has it.
+pub bus-exists : (bank pc : ℕ) (bytes : List ℕ) → pc < 65536 → length bytes ≤ 65536 → Feeds (busOf pc bytes) bank pc bytes
+bus-exists bank pc bytes h fits = record {
+  answers = λ t i k c l. ap (λ (j : ℕ). getD bytes j 0) (place-back bank pc i h (omega arith));
+}
+
+program-bounded : (w : Bool) (ds : List Delivery) → length (program w ds) ≤ 4 * length ds
+program-bounded w [] = omega arith
+program-bounded true (d ∷ ds) = omega (arith, program-length true d ds, program-bounded true ds)
+program-bounded false (d ∷ ds) = omega (arith, program-length false d ds, program-bounded false ds)
+
+-- As many deliveries as the demand speaks of fit: at 16 bits they fill the bank.
+pub program-fits : (w : Bool) (ds : List Delivery) → length ds ≤ mostDeliveries → length (program w ds) ≤ 65536
+program-fits w ds h = omega (arith, program-bounded w ds)
+
+-- ---- a memory
+filled-length : (n : ℕ) (f : ℕ → ℕ) → length (filled n f) ≡ n
+unfolding filled
+filled-length zero f = refl
+filled-length (suc n) f = ap suc (filled-length n (λ a. f (suc a)))
+
+filled-byte : (n : ℕ) (f : ℕ → ℕ) (i : ℕ) → i < n → getD (filled n f) i 0 ≡ f i
+unfolding filled
+filled-byte zero f i h = absurd (not-suc-le-zero h)
+filled-byte (suc n) f zero h = refl
+filled-byte (suc n) f (suc i) h = filled-byte n (λ a. f (suc a)) i (omega arith)
+
+memory-place : (pc i : ℕ) → pc < 65536 → i < 65536 → placeFrom pc ((pc + i) % 65536) ≡ i
+memory-place pc i h k = omega arith
+
+-- For every list of bytes that fits into a bank there is a memory that has it.
+pub memory-exists : (pc : ℕ) (bytes : List ℕ) → pc < 65536 → length bytes ≤ 65536 → Holds (memoryOf pc bytes) pc bytes
+memory-exists pc bytes h fits = record {
+  whole = filled-length 65536 (λ a. getD bytes (placeFrom pc a) 0);
+  byte = λ i l.
+      filled-byte 65536 (λ a. getD bytes (placeFrom pc a) 0) ((pc + i) % 65536) (omega arith)
+      ∙ ap (λ (j : ℕ). getD bytes j 0) (memory-place pc i h (omega arith));
+}

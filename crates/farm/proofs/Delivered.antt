@@ -1,0 +1,199 @@
+-- A delivery on a bus that has its program: where its two instructions lead.
+use Prim.Native.Nat.{ℕ, zero, suc, _+_, _*_, _%_, _<_}
+use mathlib.Core.Path.{_≡_, refl, ap, sym, subst, _∙_}
+use mathlib.Core.Bool.{Bool, true, false, not, _||_, _&&_}
+use mathlib.Core.List.{List, [], _∷_}
+use native.Mathlib.Omega.{arith}
+use lib.ListN.{length, getD}
+use Rattle.words.specs.Words.{pick, bit, implied, inc, up, at}
+use Rattle.flags.specs.declared.Flags.{Flags}
+use Rattle.adder.specs.Digits.{Digits, value}
+use Rattle.alu.specs.Alu.{operatedAt}
+use Rattle.alu.specs.declared.types.Alu.the-variants.{Adc, Sbc}
+use Rattle.cpu.specs.Record.{wellFormed, widthsSet, regsOf, ended}
+use Rattle.cpu.specs.declared.types.Record.{Record}
+use Rattle.cpu.specs.declared.types.Regs.{Regs}
+use Rattle.cpu.specs.declared.types.Reg.the-variants.{A}
+use Rattle.cpu.specs.declared.types.Request.{Request}
+use Rattle.cpu.specs.declared.types.Kind.the-variants.{Opcode, Program}
+use Rattle.cpu.specs.declared.types.One.the-variants.{Carry}
+use Rattle.opcodes.specs.Opcodes.{decodeOf, opcodes, oneBytes}
+use Rattle.opcodes.specs.declared.types.Op.the-variants.{Listed}
+use Rattle.opcodes.specs.declared.types.Operation.the-variants.{Read, Do}
+use Rattle.opcodes.specs.declared.types.Shape.the-variants.{Immediate, Implied}
+use Rattle.bus.specs.Bus.{reads}
+use Rattle.sheet.proofs.Walk.{and-left, widths-of}
+use Rattle.sheet.proofs.Kept.{well-ended}
+use Rattle.farm.specs.Pairs.{Delivery, Added, Taken, amount, bytesOf, modulus, adds, takes, Bus, heard, Feeds, Ready, operand, program, holding, wrapsUp, wrapsDown}
+use Rattle.farm.proofs.Sums.{narrow, carryFor, aluFor, Leaves, sum-leaves, Sums, sums, byte-small}
+use Rattle.farm.proofs.Instructions.{Goes, carryAsks, carried, goes-carry, sumAsks, summed, Operand, goes-sum}
+
+-- ---- a record that an instruction's end makes is ready where its registers are
+settles : (f : Flags) → widthsSet f ≡ true → (f .emulation || f .memsel) ≡ f .memsel
+settles f h = by (f .emulation) (f .memsel) (f .indexsel) h
+  where
+    by : (e m x : Bool) → implied e (m && x) ≡ true → (e || m) ≡ m
+    by true m x h = sym (and-left m x h)
+    by false m x h = refl
+
+pub ready-widths : (r : Record) → wellFormed r ≡ true → widthsSet (r .flags) ≡ true
+unfolding wellFormed
+ready-widths r h = widths-of (regsOf r) (and-left _ _ h)
+
+pub ready-ended : (w : Bool) (ir pbr pc s dbr : ℕ) (g : Regs) → widthsSet (g .flags) ≡ true → g .flags .decimal ≡ true → g .flags .memsel ≡ not w
+    → Digits (bytesOf w) (narrow w (g .a)) → pc < 65536 → Ready w (ended ir false pbr pc s dbr g)
+unfolding ended
+ready-ended w ir pbr pc s dbr g h d m p near = record {
+  well = well-ended ir false pbr pc s dbr g;
+  start = refl;
+  decimal = d;
+  width = settles (g .flags) h ∙ m;
+  digits = p;
+  inside = near;
+}
+
+-- ---- the program from its next byte on
+pub up-inc : (p i : ℕ) → up (inc p) i ≡ inc (up p i)
+up-inc p zero = refl
+up-inc p (suc i) = ap inc (up-inc p i)
+
+next-byte : (bus : Bus) (bank pc x : ℕ) (bytes : List ℕ) → Feeds bus bank pc (x ∷ bytes) → Feeds bus bank (inc pc) bytes
+next-byte bus bank pc x bytes h = record {
+  answers = λ t i k c l. ap (λ (p : ℕ). bus t (reads k (at bank p))) (up-inc pc i) ∙ h .answers t (suc i) k c (omega arith);
+}
+
+past-sum : (bus : Bus) (bank pc y n : ℕ) (rest : List ℕ) (w : Bool) → Feeds bus bank pc (y ∷ operand w n rest) → Feeds bus bank (up pc (pick w 3 2)) rest
+past-sum bus bank pc y n rest true h = next-byte bus bank _ _ _ (next-byte bus bank _ _ _ (next-byte bus bank _ _ _ h))
+past-sum bus bank pc y n rest false h = next-byte bus bank _ _ _ (next-byte bus bank _ _ _ h)
+
+past-both : (p : ℕ) (w : Bool) → up (inc p) (pick w 3 2) ≡ up p (pick w 4 3)
+past-both p true = refl
+past-both p false = refl
+
+-- ---- the opcodes of the program
+clc : decodeOf 0x18 ≡ Listed Implied (Do (Carry false))
+unfolding decodeOf opcodes oneBytes
+clc = refl
+
+sec : decodeOf 0x38 ≡ Listed Implied (Do (Carry true))
+unfolding decodeOf opcodes oneBytes
+sec = refl
+
+adc : decodeOf 0x69 ≡ Listed Immediate (Read Adc A)
+unfolding decodeOf opcodes oneBytes
+adc = refl
+
+sbc : decodeOf 0xE9 ≡ Listed Immediate (Read Sbc A)
+unfolding decodeOf opcodes oneBytes
+sbc = refl
+
+-- ---- requests that a lent memory answers: reads inside the bank
+abbrev pub Reads : (bank : ℕ) → List Request → Type 0
+Reads bank [] = Unit
+Reads bank (q ∷ qs) = (q .write ≡ false) × (p : ℕ) × (q .addr ≡ at bank p) × (p < 65536) × Reads bank qs
+
+inc-small : (p : ℕ) → inc p < 65536
+unfolding inc
+inc-small p = omega arith
+
+up-small : (p k : ℕ) → p < 65536 → up p k < 65536
+up-small p zero h = h
+up-small p (suc k) h = inc-small (up p k)
+
+-- the places of a record's instruction are in its bank
+reads-carry : (r : Record) → r .pc < 65536 → Reads (r .pbr) (carryAsks r)
+reads-carry r h = (refl, r .pc, refl, h, (refl, inc (r .pc), refl, inc-small _, tt))
+
+reads-sum : (r : Record) (w : Bool) → r .pc < 65536 → Reads (r .pbr) (sumAsks r w)
+reads-sum r true h = (refl, r .pc, refl, h, (refl, inc (r .pc), refl, inc-small _, (refl, up (r .pc) 2, refl, inc-small _, tt)))
+reads-sum r false h = (refl, r .pc, refl, h, (refl, inc (r .pc), refl, inc-small _, tt))
+
+pub sum-asks-count : (r : Record) (w : Bool) → length (sumAsks r w) ≡ 2 + bit w
+sum-asks-count r true = refl
+sum-asks-count r false = refl
+
+-- the operand's bytes, on a bus that has them behind an opcode
+operand-fed : (bus : Bus) (t : ℕ) (r : Record) (y n : ℕ) (rest : List ℕ) (w : Bool) → Digits (bytesOf w) n
+    → Feeds bus (r .pbr) (r .pc) (y ∷ operand w n rest) → Operand bus t r n w
+operand-fed bus t r y n rest true q h =
+    (h .answers (suc t) 1 Program refl (omega arith), h .answers (suc (suc t)) 2 Program refl (omega arith))
+operand-fed bus t r y n rest false q h = (h .answers (suc t) 1 Program refl (omega arith), byte-small n q)
+
+-- a delivery, from a record at time t on, before the rest of the program
+pub record Delivered (w : Bool) (bus : Bus) (t : ℕ) (r : Record) (d : Delivery) (rest : List ℕ) : Type 0 where
+  pub mid : Record
+  pub end : Record
+  pub first : Goes bus t r mid (carryAsks r)
+  pub second : Goes bus (t + 2) mid end (sumAsks mid w)
+  pub first-reads : Reads (r .pbr) (carryAsks r)
+  pub second-reads : Reads (mid .pbr) (sumAsks mid w)
+  pub ready : Ready w end
+  pub mid-bank : mid .pbr ≡ r .pbr
+  pub bank : end .pbr ≡ r .pbr
+  pub past : end .pc ≡ up (r .pc) (pick w 4 3)
+  pub fed : Feeds bus (end .pbr) (end .pc) rest
+  pub same : holding w end + modulus w * wrapsUp d (end .flags .carry) + takes w d ≡ holding w r + adds w d + modulus w * wrapsDown d (end .flags .carry)
+
+module _ (w : Bool) (bus : Bus) (t : ℕ) (r : Record) (h : Ready w r) where
+  carried-ready : (c : Bool) → Ready w (carried r c)
+  carried-ready c = ready-ended w _ _ _ _ _ _ (ready-widths r (h .well)) (h .decimal) (h .width) (h .digits) (inc-small (r .pc))
+
+  module _ (x y : ℕ) (d : Delivery) (rest : List ℕ) (hx : decodeOf x ≡ Listed Implied (Do (Carry (carryFor d))))
+      (hy : decodeOf y ≡ Listed Immediate (Read (aluFor d) A)) (q : Digits (bytesOf w) (amount d))
+      (fed : Feeds bus (r .pbr) (r .pc) (x ∷ y ∷ operand w (amount d) rest)) where
+    abbrev m : Record
+    m = carried r (carryFor d)
+
+    m-ready : Ready w m
+    m-ready = carried-ready (carryFor d)
+
+    m-fed : Feeds bus (m .pbr) (m .pc) (y ∷ operand w (amount d) rest)
+    unfolding ended
+    m-fed = next-byte bus (r .pbr) (r .pc) x _ fed
+
+    goes-first : Goes bus t r m (carryAsks r)
+    goes-first = goes-carry bus t r (h .well) (h .start) (h .inside) (carryFor d) (ap decodeOf (fed .answers t 0 Opcode refl (omega arith)) ∙ hx)
+
+    abbrev e : Record
+    e = summed m (aluFor d) (amount d) w
+
+    goes-second : Goes bus (t + 2) m e (sumAsks m w)
+    goes-second =
+        goes-sum bus (t + 2) m (m-ready .well) (m-ready .start) (m-ready .inside) (aluFor d) (amount d)
+        (ap decodeOf (m-fed .answers (t + 2) 0 Opcode refl (omega arith)) ∙ hy) w (m-ready .width) (operand-fed bus (t + 2) m y (amount d) rest w q m-fed)
+
+    m-carry : m .flags .carry ≡ carryFor d
+    unfolding ended
+    m-carry = refl
+
+    e-sums : Sums w d (m .a) (operatedAt (aluFor d) w (m .a) (amount d) (m .flags))
+    e-sums = sums w d (m .a) (m .flags) (m-ready .decimal) m-carry (m-ready .digits) q
+
+    e-ready : Ready w e
+    e-ready =
+        let l = sum-leaves w d (m .a) (amount d) (m .flags) in
+        ready-ended w _ _ _ _ _ _ (l .widths ∙ ready-widths m (m-ready .well)) (l .d ∙ m-ready .decimal) (l .m ∙ m-ready .width) (e-sums .digits)
+        (up-small (m .pc) (pick w 3 2) (m-ready .inside))
+
+    -- the two instructions of a delivery, by its two opcodes
+    made : Delivered w bus t r d rest
+    unfolding ended
+    made = record {
+      mid = m;
+      end = e;
+      first = goes-first;
+      second = goes-second;
+      first-reads = reads-carry r (h .inside);
+      second-reads = reads-sum m w (m-ready .inside);
+      ready = e-ready;
+      mid-bank = refl;
+      bank = refl;
+      past = past-both (r .pc) w;
+      fed = past-sum bus (m .pbr) (m .pc) y (amount d) rest w m-fed;
+      same = e-sums .same;
+    }
+
+  pub delivered : (d : Delivery) (ds : List Delivery) → Digits (bytesOf w) (amount d) → Feeds bus (r .pbr) (r .pc) (program w (d ∷ ds))
+      → Delivered w bus t r d (program w ds)
+  delivered (Added n) ds q fed = made 0x18 0x69 (Added n) (program w ds) clc adc q fed
+  delivered (Taken n) ds q fed = made 0x38 0xE9 (Taken n) (program w ds) sec sbc q fed

@@ -1,0 +1,10 @@
+pub mod Heard
+pub mod Instructions
+pub mod Sums
+pub mod Delivered
+pub mod Deliveries
+pub mod Buses
+pub mod OnMemory
+pub mod Demand3
+pub mod Demand3Run
+pub mod Figures
