@@ -22,9 +22,17 @@ abbrev pub lent : List ℕ → Bus
 lent m t q = busByte q m
 
 -- a lent memory that has the bytes from PC on
+abbrev pub memoryPlace : (pc i : ℕ) → ℕ
+memoryPlace pc i = (pc + i) % 65536
+
 pub record Holds (m : List ℕ) (pc : ℕ) (bytes : List ℕ) : Type 0 where
   pub whole : length m ≡ size
-  pub byte : (i : ℕ) → i < length bytes → getD m ((pc + i) % 65536) 0 ≡ getD bytes i 0
+  pub byte : (i : ℕ) → i < length bytes → getD m (memoryPlace pc i) 0 ≡ getD bytes i 0
+
+-- a list whose every number is a byte, as a lent memory's are
+abbrev pub AllBytes : List ℕ → Type 0
+AllBytes [] = Unit
+AllBytes (b ∷ bs) = (b < 256) × AllBytes bs
 
 -- such a memory: n bytes, each by its address
 unfoldable pub filled : (n : ℕ) → (ℕ → ℕ) → List ℕ
