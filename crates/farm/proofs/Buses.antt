@@ -1,12 +1,12 @@
 -- Such buses and memories exist: the demand's premises aren't empty.
-use Prim.Native.Nat.{ℕ, zero, suc, _+_, _-_, _*_, _%_, _≤_, _<_}
-use mathlib.Core.Path.{_≡_, refl, ap, sym, subst, _∙_}
+use Prim.Native.Nat.{ℕ, zero, suc, _*_, _≤_, _<_}
+use mathlib.Core.Path.{_≡_, refl, ap, _∙_}
 use mathlib.Core.Bool.{Bool, true, false}
 use mathlib.Core.List.{List, [], _∷_}
 use native.Mathlib.Nat.{not-suc-le-zero}
 use native.Mathlib.Omega.{arith}
 use lib.ListN.{length, getD}
-use Rattle.words.specs.Words.{up, sum16, at}
+use Rattle.words.specs.Words.{sum16, at}
 use Rattle.words.proofs.WordLaws.{up-sum}
 use Rattle.adder.specs.Digits.{Digits}
 use Rattle.farm.specs.Pairs.{Delivery, Added, Taken, mostDeliveries, bytesOf, AllDigits, codePlace, Feeds, operand, program}

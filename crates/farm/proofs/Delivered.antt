@@ -1,14 +1,14 @@
 -- A delivery on a bus that has its program: where its two instructions lead.
-use Prim.Native.Nat.{ℕ, zero, suc, _+_, _*_, _%_, _<_}
-use mathlib.Core.Path.{_≡_, refl, ap, sym, subst, _∙_}
-use mathlib.Core.Bool.{Bool, true, false, not, _||_, _&&_}
+use Prim.Native.Nat.{ℕ, zero, suc, _+_, _*_, _<_}
+use mathlib.Core.Path.{_≡_, refl, ap, sym, _∙_}
+use mathlib.Core.Bool.{Bool, true, false, _||_, _&&_}
 use mathlib.Core.List.{List, [], _∷_}
 use native.Mathlib.Omega.{arith}
 use lib.ListN.{length, getD}
 use Rattle.words.specs.Words.{pick, bit, implied, inc, up, sum16, at}
 use Rattle.words.proofs.WordLaws.{up-sum}
 use Rattle.flags.specs.declared.Flags.{Flags}
-use Rattle.adder.specs.Digits.{Digits, value}
+use Rattle.adder.specs.Digits.{Digits}
 use Rattle.alu.specs.Alu.{operatedAt}
 use Rattle.cpu.specs.Record.{wellFormed, widthsSet, regsOf, ended}
 use Rattle.cpu.specs.declared.types.Record.{Record}
@@ -24,7 +24,7 @@ use Rattle.opcodes.specs.declared.types.Shape.the-variants.{Immediate, Implied}
 use Rattle.bus.specs.Bus.{reads}
 use Rattle.sheet.proofs.Walk.{and-left, widths-of}
 use Rattle.sheet.proofs.Kept.{well-ended}
-use Rattle.farm.specs.Pairs.{Delivery, Added, Taken, amount, bytesOf, modulus, adds, takes, Bus, heard, Feeds, Ready, operand, program, codePlace, holding, wrapsUp, wrapsDown}
+use Rattle.farm.specs.Pairs.{Delivery, Added, Taken, amount, bytesOf, modulus, adds, takes, Bus, Feeds, Ready, operand, program, codePlace, holding, wrapsUp, wrapsDown}
 use Rattle.farm.proofs.Sums.{narrow, carryFor, aluFor, Leaves, sum-leaves, Sums, sums, byte-small}
 use Rattle.farm.proofs.Instructions.{Goes, carryAsks, carried, goes-carry, sumAsks, summed, Operand, goes-sum}
 
@@ -126,55 +126,55 @@ module _ (w : Bool) (bus : Bus) (t : ℕ) (r : Record) (h : Ready w r) where
   module _ (x y : ℕ) (d : Delivery) (rest : List ℕ) (hx : decodeOf x ≡ Listed Implied (Do (Carry (carryFor d))))
       (hy : decodeOf y ≡ Listed Immediate (Read (aluFor d) A)) (q : Digits (bytesOf w) (amount d))
       (fed : Feeds bus (r .pbr) (r .pc) (x ∷ y ∷ operand w (amount d) rest)) where
-    abbrev m : Record
-    m = carried r (carryFor d)
+    abbrev mid : Record
+    mid = carried r (carryFor d)
 
-    m-ready : Ready w m
-    m-ready = carried-ready (carryFor d)
+    mid-ready : Ready w mid
+    mid-ready = carried-ready (carryFor d)
 
-    m-fed : Feeds bus (m .pbr) (m .pc) (y ∷ operand w (amount d) rest)
+    mid-fed : Feeds bus (mid .pbr) (mid .pc) (y ∷ operand w (amount d) rest)
     unfolding ended
-    m-fed = next-byte bus (r .pbr) (r .pc) x _ (h .inside) fed
+    mid-fed = next-byte bus (r .pbr) (r .pc) x _ (h .inside) fed
 
-    goes-first : Goes bus t r m (carryAsks r)
+    goes-first : Goes bus t r mid (carryAsks r)
     goes-first = goes-carry bus t r (h .well) (h .start) (h .inside) (carryFor d) (ap decodeOf (fed .answers t 0 Opcode refl (omega arith)) ∙ hx)
 
-    abbrev e : Record
-    e = summed m (aluFor d) (amount d) w
+    abbrev end : Record
+    end = summed mid (aluFor d) (amount d) w
 
-    goes-second : Goes bus (t + 2) m e (sumAsks m w)
+    goes-second : Goes bus (t + 2) mid end (sumAsks mid w)
     goes-second =
-        goes-sum bus (t + 2) m (m-ready .well) (m-ready .start) (m-ready .inside) (aluFor d) (amount d)
-        (ap decodeOf (m-fed .answers (t + 2) 0 Opcode refl (omega arith)) ∙ hy) w (m-ready .width) (operand-fed bus (t + 2) m y (amount d) rest w q m-fed)
+        goes-sum bus (t + 2) mid (mid-ready .well) (mid-ready .start) (mid-ready .inside) (aluFor d) (amount d)
+        (ap decodeOf (mid-fed .answers (t + 2) 0 Opcode refl (omega arith)) ∙ hy) w (mid-ready .width) (operand-fed bus (t + 2) mid y (amount d) rest w q mid-fed)
 
-    m-carry : m .flags .carry ≡ carryFor d
+    mid-carry : mid .flags .carry ≡ carryFor d
     unfolding ended
-    m-carry = refl
+    mid-carry = refl
 
-    e-sums : Sums w d (m .a) (operatedAt (aluFor d) w (m .a) (amount d) (m .flags))
-    e-sums = sums w d (m .a) (m .flags) (m-ready .decimal) m-carry (m-ready .digits) q
+    end-sums : Sums w d (mid .a) (operatedAt (aluFor d) w (mid .a) (amount d) (mid .flags))
+    end-sums = sums w d (mid .a) (mid .flags) (mid-ready .decimal) mid-carry (mid-ready .digits) q
 
-    e-ready : Ready w e
-    e-ready =
-        ready-ended w m m-ready _ _ _ _ _ _ (sum-leaves w d (m .a) (amount d) (m .flags)) (e-sums .digits)
-        (up-small (m .pc) (pick w 3 2) (m-ready .inside))
+    end-ready : Ready w end
+    end-ready =
+        ready-ended w mid mid-ready _ _ _ _ _ _ (sum-leaves w d (mid .a) (amount d) (mid .flags)) (end-sums .digits)
+        (up-small (mid .pc) (pick w 3 2) (mid-ready .inside))
 
     -- the two instructions of a delivery, by its two opcodes
     made : Delivered w bus t r d rest
     unfolding ended
     made = record {
-      mid = m;
-      end = e;
+      mid = mid;
+      end = end;
       first = goes-first;
       second = goes-second;
       first-reads = reads-carry r (h .inside);
-      second-reads = reads-sum m w (m-ready .inside);
-      ready = e-ready;
+      second-reads = reads-sum mid w (mid-ready .inside);
+      ready = end-ready;
       mid-bank = refl;
       bank = refl;
       past = past-both (r .pc) w;
-      fed = past-sum bus (m .pbr) (m .pc) y (amount d) rest w (m-ready .inside) m-fed;
-      same = e-sums .same;
+      fed = past-sum bus (mid .pbr) (mid .pc) y (amount d) rest w (mid-ready .inside) mid-fed;
+      same = end-sums .same;
     }
 
   pub delivered : (d : Delivery) (ds : List Delivery) → Digits (bytesOf w) (amount d) → Feeds bus (r .pbr) (r .pc) (program w (d ∷ ds))

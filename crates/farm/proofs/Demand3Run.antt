@@ -1,16 +1,15 @@
 -- Demand 3 of a run over a lent memory: the code's `run` gives it, by its contract.
-use Prim.Native.Nat.{ℕ, zero, suc, _+_, _*_, _%_, _≤_, _<_}
-use mathlib.Core.Path.{_≡_, refl, ap, sym, subst, _∙_}
+use Prim.Native.Nat.{ℕ, _+_, _*_, _≤_, _<_}
+use mathlib.Core.Path.{_≡_, ap, sym, subst, _∙_}
 use mathlib.Core.Bool.{Bool, true, false}
 use mathlib.Core.List.{List, [], _∷_}
 use native.Mathlib.Omega.{arith}
 use lib.ListN.{length, getD}
-use Rattle.words.specs.Words.{bit, up, sum16, at}
+use Rattle.words.specs.Words.{sum16, at}
 use Rattle.words.proofs.WordLaws.{up-sum}
 use Rattle.cpu.specs.declared.types.Record.{Record}
-use Rattle.cpu.specs.declared.types.Request.{Request}
 use Rattle.cpu.specs.declared.types.Answer.the-variants.{Next}
-use Rattle.run.specs.Runs.{End, wholeRun, runOf, size, most}
+use Rattle.run.specs.Runs.{wholeRun, size, most}
 use Rattle.run.proofs.Laws.{accepted}
 use Rattle.farm.specs.Pairs.{Delivery, mostDeliveries, AllDigits, codePlace, Feeds, program, Tally, tally, Ready, Conserved, perDelivery, cyclesFor}
 use Rattle.farm.specs.Lent.{lent, memoryPlace, Holds, RunConserved}

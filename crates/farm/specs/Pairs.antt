@@ -1,6 +1,6 @@
 -- Demand 3's words: deliveries in decimal digits, the program that adds and takes them, a bus that has that program, and what is
 -- counted while it runs. w: 16 bits wide.
-use Prim.Native.Nat.{ℕ, zero, suc, _+_, _*_, _≤_, _<_}
+use Prim.Native.Nat.{ℕ, zero, suc, _+_, _*_, _<_}
 use mathlib.Core.Path.{_≡_}
 use mathlib.Core.Bool.{Bool, true, false, not}
 use mathlib.Core.List.{List, [], _∷_}
