@@ -1,5 +1,5 @@
 -- Delivery after delivery: what each conserves, all conserve.
-use Prim.Native.Nat.{ℕ, zero, suc, _+_, _*_}
+use Prim.Native.Nat.{ℕ, zero, suc, _+_}
 use mathlib.Core.Path.{_≡_, refl, ap, sym, subst, _∙_}
 use mathlib.Core.Bool.{Bool, true, false}
 use mathlib.Core.List.{List, [], _∷_}
@@ -11,7 +11,7 @@ use Rattle.cpu.specs.declared.types.Record.{Record}
 use Rattle.cpu.specs.declared.types.Request.{Request}
 use Rattle.cpu.specs.declared.types.Answer.{Answer}
 use Rattle.farm.specs.Pairs.{Delivery, Added, Taken, AllDigits, Bus, onBus, Feeds, program, Tally, longer, counted, onFrom, onward, tally, Ready, Conserved}
-use Rattle.farm.proofs.Instructions.{Goes, sumAsks}
+use Rattle.farm.proofs.Instructions.{Goes}
 use Rattle.farm.proofs.Delivered.{Delivered, delivered, sum-asks-count}
 
 -- ---- the tally by its first delivery

@@ -1,5 +1,5 @@
 -- Demand 3: a program of decimal sums on the machine that demand 2 defines loses no digit.
-use Prim.Native.Nat.{ℕ, _≤_}
+use Prim.Native.Nat.{_≤_}
 use mathlib.Core.Bool.{Bool}
 use mathlib.Core.List.{List}
 use lib.ListN.{length}

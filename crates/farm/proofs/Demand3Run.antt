@@ -1,19 +1,18 @@
 -- Demand 3 of a run over a lent memory: the code's `run` gives it, by its contract.
-use Prim.Native.Nat.{ℕ, zero, suc, _+_, _*_, _%_, _≤_, _<_}
-use mathlib.Core.Path.{_≡_, refl, ap, sym, subst, _∙_}
+use Prim.Native.Nat.{ℕ, _+_, _*_, _≤_, _<_}
+use mathlib.Core.Path.{_≡_, ap, sym, subst, _∙_}
 use mathlib.Core.Bool.{Bool, true, false}
 use mathlib.Core.List.{List, [], _∷_}
 use native.Mathlib.Omega.{arith}
 use lib.ListN.{length, getD}
-use Rattle.words.specs.Words.{bit, up, sum16, at}
+use Rattle.words.specs.Words.{sum16, at}
 use Rattle.words.proofs.WordLaws.{up-sum}
 use Rattle.cpu.specs.declared.types.Record.{Record}
-use Rattle.cpu.specs.declared.types.Request.{Request}
 use Rattle.cpu.specs.declared.types.Answer.the-variants.{Next}
-use Rattle.run.specs.Runs.{End, wholeRun, runOf, size, most}
+use Rattle.run.specs.Runs.{wholeRun, size, most}
 use Rattle.run.proofs.Laws.{accepted}
-use Rattle.farm.specs.Pairs.{Delivery, mostDeliveries, AllDigits, Feeds, program, Tally, tally, Ready, Conserved, perDelivery, cyclesFor}
-use Rattle.farm.specs.Lent.{lent, Holds, RunConserved}
+use Rattle.farm.specs.Pairs.{Delivery, mostDeliveries, AllDigits, codePlace, Feeds, program, Tally, tally, Ready, Conserved, perDelivery, cyclesFor}
+use Rattle.farm.specs.Lent.{lent, memoryPlace, Holds, RunConserved}
 use Rattle.farm.proofs.Instructions.{carryAsks, sumAsks}
 use Rattle.farm.proofs.Delivered.{Delivered, delivered, Reads, sum-asks-count}
 use Rattle.farm.proofs.Deliveries.{later, tally-first}
@@ -45,9 +44,9 @@ module _ (w : Bool) (m : List ℕ) (whole : length m ≡ size) where
       subst (λ (n : ℕ). Through m n r s) count (through-both m (perDelivery w) (cyclesFor w ds) r (x .end) s (through-delivery t r d _ x z) rest)
 
 -- a memory that has the program is a bus that has it
-place-in-bank-0 : (bank pc i : ℕ) → bank ≡ 0 → pc < 65536 → at bank (up pc i) ≡ (pc + i) % 65536
+place-in-bank-0 : (bank pc i : ℕ) → bank ≡ 0 → pc < 65536 → codePlace bank pc i ≡ memoryPlace pc i
 unfolding at sum16
-place-in-bank-0 bank pc i z h = rw (up-sum pc i h) (omega (arith, z))
+place-in-bank-0 bank pc i z h = omega (arith, up-sum pc i h, z)
 
 memory-feeds : (m : List ℕ) (bank pc : ℕ) (bytes : List ℕ) → bank ≡ 0 → pc < 65536 → Holds m pc bytes → Feeds (lent m) bank pc bytes
 memory-feeds m bank pc bytes z h x = record {
@@ -69,7 +68,7 @@ demand-3-run w r m ds h z q bound holds =
     let y = through-deliveries w m (holds .whole) ds 0 r (x .0) h q fed z (x .1 .last) in
     subst (RunConserved w r m ds) (sym (accepted (cyclesFor w ds) r m (holds .whole) (budget-accepted w (length ds) bound))) (record {
       number = y .number;
-      lines = y .count;
+      lines = omega (arith, y .count);
       mem = y .mem;
       conserved = subst (λ (s : Record). Conserved w r s ds (tally (lent m) ds 0 r)) (sym (y .rec)) (x .1);
     })

@@ -1,16 +1,12 @@
 -- The two instructions of a delivery on a bus: the sheet's rows, with the bytes that the bus answers put in.
-use Prim.Native.Nat.{ℕ, suc, _+_, _/_, _%_, _<_}
-use mathlib.Core.Path.{_≡_, refl, ap, sym, subst, _∙_}
-use mathlib.Core.Bool.{Bool, true, false, not, _||_, _&&_, Bool·not-not}
+use Prim.Native.Nat.{ℕ, suc, _<_}
+use mathlib.Core.Path.{_≡_, ap, subst, _∙_}
+use mathlib.Core.Bool.{Bool, true, false, not, Bool·not-not}
 use mathlib.Core.List.{List, [], _∷_}
 use native.Mathlib.Omega.{arith}
-use lib.ListN.{length}
-use Rattle.words.specs.Words.{pick, bit, lowOf, highOf, word, inc, up, at, implied}
-use Rattle.flags.specs.declared.Flags.{Flags}
-use Rattle.adder.specs.Digits.{Digits}
+use Rattle.words.specs.Words.{pick, lowOf, highOf, word, inc, up, at}
 use Rattle.alu.specs.Alu.{operatedAt, withCarry}
 use Rattle.alu.specs.declared.types.Alu.{Alu}
-use Rattle.alu.specs.declared.types.Word.{Word}
 use Rattle.cpu.specs.Record.{wellFormed, regsOf, ended}
 use Rattle.cpu.specs.Registers.{setFlags}
 use Rattle.cpu.specs.declared.types.Record.{Record}
@@ -21,7 +17,6 @@ use Rattle.cpu.specs.declared.types.Answer.the-variants.{Next}
 use Rattle.cpu.specs.declared.types.One.the-variants.{Carry}
 use Rattle.cpu.proofs.Bytes.{with}
 use Rattle.opcodes.specs.Opcodes.{decodeOf, wideOf}
-use Rattle.opcodes.specs.declared.types.Op.{Op}
 use Rattle.opcodes.specs.declared.types.Op.the-variants.{Listed}
 use Rattle.opcodes.specs.declared.types.Operation.{Operation}
 use Rattle.opcodes.specs.declared.types.Operation.the-variants.{Read, Do}
@@ -30,7 +25,7 @@ use Rattle.opcodes.specs.declared.types.Shape.the-variants.{Immediate, Implied}
 use Rattle.cycles.specs.Cycles.{unaligned}
 use Rattle.cycles.specs.declared.types.Micro.the-variants.{Fetch}
 use Rattle.step.specs.Cycle.{microOf, requestOf}
-use Rattle.sheet.specs.Run.{Ran, run}
+use Rattle.sheet.specs.Run.{Ran}
 use Rattle.sheet.specs.Sheet.{O, P, I, sheet, row, instruction, when, effect}
 use Rattle.sheet.proofs.Demand2.{demand-2}
 use Rattle.sheet.proofs.Effects.{effect-8, effect-16}

@@ -1,10 +1,9 @@
 -- An instruction on the bus that a lent memory is goes as a run of that many cycles over the memory does, where it only reads and
 -- stays inside.
-use Prim.Native.Nat.{ℕ, zero, suc, _+_, _*_, _<_}
+use Prim.Native.Nat.{ℕ, zero, suc, _+_, _<_}
 use mathlib.Core.Path.{_≡_, refl, ap, sym, subst, _∙_}
 use mathlib.Core.Bool.{Bool, true, false}
-use mathlib.Core.List.{List, [], _∷_}
-use native.Mathlib.Nat.{zero-add}
+use mathlib.Core.List.{List}
 use native.Mathlib.Omega.{arith}
 use lib.ListN.{length, length-append}
 use borrow.Author.Tests.{lt-leb}
@@ -18,14 +17,13 @@ use Rattle.cpu.specs.declared.types.Answer.the-variants.{Next, Refused}
 use Rattle.cpu.specs.declared.types.Refusal.the-variants.{Bank}
 use Rattle.step.specs.Cycle.{microOf, answeredBy, requestOf, answerOf}
 use Rattle.memory.specs.Turns.{busByte, crossed, answered, over, cycleOf, storeLine}
-use Rattle.memory.specs.declared.types.Turn.{Turn}
 use Rattle.memory.specs.declared.types.Turn.the-variants.{Done, Stop}
-use Rattle.sheet.specs.Run.{Ran, only, also, after, later, atBoundary, run}
+use Rattle.sheet.specs.Run.{Ran, only, also, after, atBoundary, run}
 use Rattle.sheet.proofs.Walk.{false-true}
 use Rattle.run.specs.Runs.{End, more, joined, runOf, size}
-use Rattle.run.proofs.Laws.{run-done, run-none}
+use Rattle.run.proofs.Laws.{run-done}
 use Rattle.run.proofs.TwoRuns.{cut}
-use Rattle.farm.specs.Pairs.{reply, left, heard, onBus}
+use Rattle.farm.specs.Pairs.{reply, left, heard}
 use Rattle.farm.specs.Lent.{lent}
 use Rattle.farm.proofs.Instructions.{Goes}
 use Rattle.farm.proofs.Delivered.{Reads}

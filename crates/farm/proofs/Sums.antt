@@ -1,6 +1,6 @@
 -- What a delivery's sum or difference makes of the accumulator at its width: alu's decimal laws, said once over the width.
-use Prim.Native.Nat.{ℕ, _+_, _*_, _/_, _%_, _<_}
-use mathlib.Core.Path.{_≡_, refl, ap, sym, subst, _∙_}
+use Prim.Native.Nat.{ℕ, _+_, _*_, _%_, _<_}
+use mathlib.Core.Path.{_≡_, refl, ap}
 use mathlib.Core.Bool.{Bool, true, false, not}
 use native.Mathlib.Omega.{arith}
 use Rattle.words.specs.Words.{pick, bit, lowOf}
@@ -50,17 +50,24 @@ pub record Sums (w : Bool) (d : Delivery) (a : ℕ) (r : Word) : Type 0 where
 pub byte-small : (n : ℕ) → Digits 1 n → n < 256
 byte-small n q = omega arith
 
+-- a sum that starts with carry clear and a difference that starts with carry set, as the tally counts them
+sum-counts : (M v a n k : ℕ) (c t : Bool) → c ≡ false → n ≡ k → v + M * bit t ≡ a + n + bit c → v + M * bit t + 0 ≡ a + k + M * 0
+sum-counts M v a n k c t e f h = omega (arith, h, f, ap bit e)
+
+difference-counts : (M v a n k : ℕ) (c t : Bool) → c ≡ true → n ≡ k → v + n + bit (not c) ≡ a + M * bit (not t) → v + M * 0 + k ≡ a + 0 + M * bit (not t)
+difference-counts M v a n k c t e f h = omega (arith, h, f, ap (λ (x : Bool). bit (not x)) e)
+
 pub sums : (w : Bool) (d : Delivery) (a : ℕ) (f : Flags) → f .decimal ≡ true → f .carry ≡ carryFor d → Digits (bytesOf w) (narrow w a)
     → Digits (bytesOf w) (amount d) → Sums w d a (operatedAt (aluFor d) w a (amount d) f)
 sums true (Added n) a f m c p q =
-    let k = adc-decimal-16 a n f m p q in record { digits = k .bytes; same = omega (arith, k .same, ap bit c) }
+    let k = adc-decimal-16 a n f m p q in record { digits = k .bytes; same = sum-counts _ _ _ _ _ (f .carry) (operatedAt Adc true a n f .flags .carry) c refl (k .same) }
 sums true (Taken n) a f m c p q =
-    let k = sbc-decimal-16 a n f m p q in record { digits = k .bytes; same = omega (arith, k .same, ap (λ (x : Bool). bit (not x)) c) }
+    let k = sbc-decimal-16 a n f m p q in record { digits = k .bytes; same = difference-counts _ _ _ _ _ (f .carry) (operatedAt Sbc true a n f .flags .carry) c refl (k .same) }
 sums false (Added n) a f m c p q =
     let small : n % 256 ≡ n = omega (arith, byte-small n q) in
     let k = adc-decimal-8 a n f m p (rw small q) in
-    record { digits = k .bytes; same = omega (arith, k .same, ap bit c, ap (value 1) small) }
+    record { digits = k .bytes; same = sum-counts _ _ _ _ _ (f .carry) (operatedAt Adc false a n f .flags .carry) c (ap (value 1) small) (k .same) }
 sums false (Taken n) a f m c p q =
     let small : n % 256 ≡ n = omega (arith, byte-small n q) in
     let k = sbc-decimal-8 a n f m p (rw small q) in
-    record { digits = k .bytes; same = omega (arith, k .same, ap (λ (x : Bool). bit (not x)) c, ap (value 1) small) }
+    record { digits = k .bytes; same = difference-counts _ _ _ _ _ (f .carry) (operatedAt Sbc false a n f .flags .carry) c (ap (value 1) small) (k .same) }

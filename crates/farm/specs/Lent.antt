@@ -21,12 +21,21 @@ busOf pc bytes t q = getD bytes (placeFrom pc (q .addr)) 0
 abbrev pub lent : List ℕ → Bus
 lent m t q = busByte q m
 
+-- where byte i lies in a lent memory, which stands for bank 0
+abbrev pub memoryPlace : (pc i : ℕ) → ℕ
+memoryPlace pc i = (pc + i) % 65536
+
 -- a lent memory that has the bytes from PC on
 pub record Holds (m : List ℕ) (pc : ℕ) (bytes : List ℕ) : Type 0 where
   pub whole : length m ≡ size
-  pub byte : (i : ℕ) → i < length bytes → getD m ((pc + i) % 65536) 0 ≡ getD bytes i 0
+  pub byte : (i : ℕ) → i < length bytes → getD m (memoryPlace pc i) 0 ≡ getD bytes i 0
 
--- such a memory: n bytes, each by its address
+-- a list whose every number is a byte, as a lent memory's are
+abbrev pub AllBytes : List ℕ → Type 0
+AllBytes [] = Unit
+AllBytes (b ∷ bs) = (b < 256) × AllBytes bs
+
+-- n bytes, each by its address; and a memory that has the bytes from PC on
 unfoldable pub filled : (n : ℕ) → (ℕ → ℕ) → List ℕ
 filled zero f = []
 filled (suc n) f = f 0 ∷ filled n (λ a. f (suc a))

@@ -1,6 +1,6 @@
 -- Demand 3's words: deliveries in decimal digits, the program that adds and takes them, a bus that has that program, and what is
 -- counted while it runs. w: 16 bits wide.
-use Prim.Native.Nat.{ℕ, zero, suc, _+_, _*_, _≤_, _<_}
+use Prim.Native.Nat.{ℕ, zero, suc, _+_, _*_, _<_}
 use mathlib.Core.Path.{_≡_}
 use mathlib.Core.Bool.{Bool, true, false, not}
 use mathlib.Core.List.{List, [], _∷_}
@@ -105,10 +105,14 @@ isCode Program = true
 isCode Data = false
 isCode Invalid = false
 
--- every read of code at a byte of the program, whenever it comes, is answered with that byte; PC goes on inside its bank, and
--- nothing is said of other requests
+-- where byte i of a program lies: PC goes on inside its bank
+abbrev pub codePlace : (bank pc i : ℕ) → ℕ
+codePlace bank pc i = at bank (up pc i)
+
+-- every read of code at a byte of the program, whenever it comes, is answered with that byte; nothing is said of other
+-- requests
 pub record Feeds (bus : Bus) (bank pc : ℕ) (bytes : List ℕ) : Type 0 where
-  pub answers : (t i : ℕ) (k : Kind) → isCode k ≡ true → i < length bytes → bus t (reads k (at bank (up pc i))) ≡ getD bytes i 0
+  pub answers : (t i : ℕ) (k : Kind) → isCode k ≡ true → i < length bytes → bus t (reads k (codePlace bank pc i)) ≡ getD bytes i 0
 
 -- ---- what is counted
 
