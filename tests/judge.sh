@@ -1,0 +1,12 @@
+#!/bin/sh
+# A short seeded part of the comparison with the crate w65c816 0.1.17, where Rust and the crate's source are at hand. Run it after `rt check ports`.
+set -eu
+cd "$(dirname "$0")/.."
+source=../shared/docs/src/src
+if ! command -v rustc >/dev/null; then
+    echo "judge: not run: there is no rustc"
+elif [ ! -f "$source/lib.rs" ]; then
+    echo "judge: not run: the source of w65c816 0.1.17 isn't at $source"
+else
+    judge/judge.sh "$source" 816 40 400 short
+fi
