@@ -12,8 +12,9 @@ use Rattle.words.specs.Words.{pick, bit, lowOf, highOf, word}
 use Rattle.flags.specs.Flags.{bitOf, weigh}
 use Rattle.flags.specs.declared.Flags.{Flags}
 use Rattle.cpu.specs.declared.types.Record.{Record}
-use Rattle.packed.specs.Packed.{statusOf, flagsOf, pack, unpack, isPacked, byteAt, reserved, regular, unpacked}
-use Rattle.packed.specs.declared.types.Unpacked.the-variants.{Good}
+use Rattle.packed.specs.Packed.{statusOf, flagsOf, pack, unpack, isPacked, byteAt, reserved, regular, unpacked, placed}
+use Rattle.packed.specs.declared.types.Unpacked.the-variants.{Good, Bad}
+use Rattle.packed.proofs.Laws.{placed-whole}
 
 -- ---- words
 
@@ -244,3 +245,25 @@ pack-unpack b p h =
 -- what the code finds in a record's bytes
 pub found-again : (r : Record) → unpacked (pack r) ≡ Good r
 found-again r = rw (packed-regular r, unpack-pack r)
+
+-- ---- a record put in the place of another
+
+picked-good : (t : Bool) (s r : Record) → pick t (Good s) Bad ≡ Good r → t ≡ true
+picked-good true s r h = refl
+picked-good false s r h = let z : _≡_ {A = ℕ} 0 1 = cc in absurd (omega arith)
+
+pub good-packed : (b : List ℕ) (r : Record) → unpacked b ≡ Good r → isPacked b ≡ true
+good-packed b r h = picked-good (isPacked b) (unpack b) r h
+
+pub good-record : (b : List ℕ) (r : Record) → unpacked b ≡ Good r → r ≡ unpack b
+good-record b r h = let e : Good r ≡ Good (unpack b) = sym h ∙ rw (good-packed b r h) in cc
+
+pub pack-length : (r : Record) → length (pack r) ≡ 32
+unfolding pack
+pack-length r = refl
+
+-- x, the bytes of s, put at the front of a packed record's
+pub put-back : (b t x : List ℕ) (r s : Record) → unpacked b ≡ Good r → x ≡ pack s → t ≡ placed b 0 x → t ≡ pack s
+put-back b t x r s h e f =
+    let l : length b ≡ length (pack s) = regular-of b (good-packed b r h) .size ∙ sym (pack-length s) in
+    f ∙ ap (placed b 0) e ∙ placed-whole (pack s) b l
