@@ -1,15 +1,11 @@
-// Runs of a packed record over a lent memory, with a trace and without.
+// Runs of a packed record over a lent memory.
 ghost use mathlib.Core.Path.{_≡_};
-ghost use Prim.Native.Nat.{_+_, _≤_, _<_};
-ghost use Rattle.run.specs.Runs.{most};
-ghost use Rattle.traced.specs.Traces.{roomOf};
-ghost use Rattle.ports.specs.Ports.{runNumber, unfit, runBytes, traceNumber, unfitText, traceBytes};
+ghost use Rattle.ports.specs.Ports.{runNumber, unfit, runBytes};
 use packed::bytes::pack;
 use packed::bytes::put;
 use packed::bytes::unpack;
 use packed::types::Unpacked;
 use run::run::run;
-use traced::traced::traced_piece;
 
 fn run_number(refusal: u8, cycles: u32) -> u64
     ensures { λ n. ⌜ n ≡ runNumber refusal cycles ⌝ }
