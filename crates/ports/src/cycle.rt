@@ -42,7 +42,7 @@ fn wide(n: u8) -> u64
 }
 
 // What is asked, or why nothing is, in one number.
-fn asked_number(a: Asked) -> u64
+pub fn asked_number(a: Asked) -> u64
     ensures { λ n. ⌜ n ≡ askedNumber a ⌝ }
 {
     match a {
