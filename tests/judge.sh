@@ -1,8 +1,9 @@
 #!/bin/sh
-# A short seeded part of the comparison with the crate w65c816 0.1.17, where Rust and the crate's source are at hand. Run it after `rt check ports`.
+# A short seeded part of the comparison with the crate w65c816 0.1.17, where Rust and the crate's source are at hand: W65C816 names the folder of
+# its lib.rs, if it isn't beside the checkout. Run it after `rt check ports`.
 set -eu
 cd "$(dirname "$0")/.."
-source=../shared/docs/src/src
+source=${W65C816:-../shared/docs/src/src}
 if ! command -v rustc >/dev/null; then
     echo "judge: not run: there is no rustc"
 elif [ ! -f "$source/lib.rs" ]; then

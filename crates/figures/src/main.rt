@@ -7,10 +7,12 @@ mod single;
 fn main() {
     single::arithmetic();
     single::jumps();
+    single::widths();
     single::others();
     single::pairs();
     runs::moves();
     runs::refusals();
+    runs::written();
     runs::traces();
     runs::sessions();
 }

@@ -1,5 +1,6 @@
 // Runs over a lent memory.
 use crate::say::say;
+use crate::say::say_held;
 use crate::say::say4;
 use crate::say::start;
 use cpu::types::Record;
@@ -30,11 +31,7 @@ fn say_end(refusal: u8, cycles: u32, r: Record) {
     say4(r.y);
     say(b" PC ");
     say4(r.pc);
-    if r.held {
-        say(b"  held\n");
-    } else {
-        say(b"\n");
-    }
+    say_held(r.held);
 }
 
 fn outcome(name: &[u8], o: Outcome) {
@@ -104,6 +101,30 @@ pub fn refusals() {
     mem[0x8000] = 0xEA;
     mem[0x8001] = 0x00;
     outcome(b"NOP, then a byte that isn't listed", run(r, &mut mem, 10));
+}
+
+// What was written before a refusal stays, and an internal cycle outside bank 0 is refused like any other.
+pub fn written() {
+    let mut mem = [0u8; 65536];
+    mem[0x8000] = 0x85;
+    mem[0x8001] = 0x10;
+    let r = start(false, 0x30, 0x0042, 0x01FF, 0x8000);
+    outcome(
+        b"STA 10, then a byte that isn't listed",
+        run(r, &mut mem, 10),
+    );
+    say_byte(b"  byte at 0010: ", mem[0x0010]);
+    let nop = Record {
+        held: true,
+        ir: 0xEA,
+        tcu: 1,
+        pbr: 1,
+        ..r
+    };
+    outcome(
+        b"the internal cycle of NOP in bank 01",
+        run(nop, &mut mem, 10),
+    );
 }
 
 fn traced(name: &[u8], t: Traced, text: &[u8]) {

@@ -4,6 +4,8 @@ use cpu::types::Record;
 use cpu::types::Refusal;
 use flags::Flags;
 use libc::STDOUT_FILENO;
+use tables::count::cycle_count;
+use tables::count::length_of;
 
 pub fn say(text: &[u8]) {
     io::write_all(STDOUT_FILENO, text);
@@ -61,10 +63,17 @@ pub fn start(emulation: bool, p: u8, a: u16, s: u16, pc: u16) -> Record {
     }
 }
 
+// A record still under way is said to be held.
+pub fn say_held(held: bool) {
+    if held { say(b"  held\n") } else { say(b"\n") }
+}
+
 pub fn say_record(r: Record, cycles: usize) {
     let f = r.flags;
     say(b"  A ");
     say4(r.a);
+    say(b" X ");
+    say4(r.x);
     say(b" S ");
     say4(r.s);
     say(b" PC ");
@@ -79,11 +88,20 @@ pub fn say_record(r: Record, cycles: usize) {
     say_bit(f.carry);
     say(b"  cycles ");
     io::print_decimal(STDOUT_FILENO, cycles as u64);
-    say(b"\n");
+    say_held(r.held);
 }
 
 pub fn say_refusal(n: Refusal) {
     say(b"  refused: ");
     io::print_decimal(STDOUT_FILENO, number(n) as u64);
+    say(b"\n");
+}
+
+// What the constant tables say of an opcode: a branch's count is that of one that isn't taken.
+pub fn say_table(byte: u8, r: Record) {
+    say(b"  table: cycles ");
+    io::print_decimal(STDOUT_FILENO, cycle_count(byte, r.flags, r.d) as u64);
+    say(b" bytes ");
+    io::print_decimal(STDOUT_FILENO, length_of(byte, r.flags) as u64);
     say(b"\n");
 }

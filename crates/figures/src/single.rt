@@ -2,6 +2,7 @@
 use crate::say::say;
 use crate::say::say_record;
 use crate::say::say_refusal;
+use crate::say::say_table;
 use crate::say::start;
 use cpu::types::Answer;
 use cpu::types::Asked;
@@ -29,6 +30,9 @@ fn crossed(q: Request, byte: u8) -> Request {
 
 // One cycle: what was asked is printed; the record after, or the refusal.
 fn cycle(n: u32, r: Record, byte: u8) -> Answer {
+    if n == 1 {
+        say_table(byte, r);
+    }
     let asked = step::request(r);
     match asked {
         Asked::No(k) => Answer::Refused(k),
@@ -73,7 +77,7 @@ fn figure(name: &[u8], from: Record, bytes: &[u8]) -> Record {
 pub fn arithmetic() {
     figure(
         b"decimal, 8 bit: 99 + 01, C 0",
-        start(false, 0x38, 0x0099, 0x01FF, 0x8000),
+        start(false, 0xF8, 0x0099, 0x01FF, 0x8000),
         b"\x69\x01",
     );
     figure(
@@ -83,7 +87,7 @@ pub fn arithmetic() {
     );
     figure(
         b"decimal, 8 bit: 00 - 01, C 1",
-        start(false, 0x39, 0x0000, 0x01FF, 0x8000),
+        start(false, 0x79, 0x0000, 0x01FF, 0x8000),
         b"\xE9\x01",
     );
     figure(
@@ -98,12 +102,12 @@ pub fn arithmetic() {
     );
     figure(
         b"CMP 16 bit, 1234 with 1235",
-        start(false, 0x00, 0x1234, 0x01FF, 0x8000),
+        start(false, 0x03, 0x1234, 0x01FF, 0x8000),
         b"\xC9\x35\x12",
     );
     figure(
         b"XBA on 8000",
-        start(false, 0x30, 0x8000, 0x01FF, 0x8000),
+        start(false, 0x32, 0x8000, 0x01FF, 0x8000),
         b"\xEB\x00\x00",
     );
 }
@@ -143,6 +147,20 @@ pub fn jumps() {
         b"RTS, emulation, S 01FE",
         start(true, 0x30, 0, 0x01FE, 0x8000),
         b"\x60\x00\x00\x34\x12\x00",
+    );
+}
+
+// M and X unlike: the accumulator's width is M's.
+pub fn widths() {
+    figure(
+        b"LDA #, 16-bit accumulator, 8-bit index",
+        start(false, 0x10, 0, 0x01FF, 0x8000),
+        b"\xA9\x34\x12",
+    );
+    figure(
+        b"LDX #, 8-bit accumulator, 16-bit index",
+        start(false, 0x20, 0, 0x01FF, 0x8000),
+        b"\xA2\x34\x12",
     );
 }
 

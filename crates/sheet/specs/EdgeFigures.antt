@@ -447,10 +447,16 @@ refusals =
     ∷ row (native8 (Held is 1 ∷ IR is 0xA5 ∷ TCU is 3 ∷ Address is 0x0010 ∷ DP is 0x0100 ∷ [])) (0x12 ∷ []) (Asks [] ∷ Refusal is 6 ∷ [])
     ∷ row (native8 (Held is 1 ∷ IR is 0xA5 ∷ TCU is 3 ∷ Address is 0x0010 ∷ DP is 0x0001 ∷ [])) (0x12 ∷ [])
     (Asks (D 0x000010 ∷ []) ∷ A is 0x0012 ∷ Cycles is 1 ∷ [])
-    -- 6: a branch that isn't taken has its third cycle, and in emulation its fourth
-    ∷ row (native8 (Held is 1 ∷ IR is 0xD0 ∷ TCU is 2 ∷ z is 1 ∷ PC is 0x8002 ∷ [])) (0x00 ∷ []) (Asks (I 0x008002 ∷ []) ∷ Cycles is 1 ∷ [])
+    -- 6: a branch that isn't taken has its third cycle, which takes it, and in emulation its fourth, which ends it
+    ∷ row (native8 (Held is 1 ∷ IR is 0xD0 ∷ TCU is 2 ∷ z is 1 ∷ PC is 0x8002 ∷ Address is 0x0010 ∷ Data is 0x8002 ∷ [])) (0x00 ∷ [])
+    (Asks (I 0x008002 ∷ []) ∷ PC is 0x8012 ∷ Held is 0 ∷ Cycles is 1 ∷ [])
     ∷ row (native8 (Held is 1 ∷ IR is 0xD0 ∷ TCU is 3 ∷ z is 1 ∷ PC is 0x8002 ∷ [])) (0x00 ∷ []) (Asks [] ∷ Refusal is 6 ∷ [])
-    ∷ row (emulation (Held is 1 ∷ IR is 0xD0 ∷ TCU is 3 ∷ z is 1 ∷ PC is 0x8002 ∷ Data is 0x8002 ∷ [])) (0x00 ∷ []) (Asks (I 0x008002 ∷ []) ∷ Cycles is 1 ∷ [])
+    ∷ row (emulation (Held is 1 ∷ IR is 0xD0 ∷ TCU is 2 ∷ z is 1 ∷ PC is 0x8002 ∷ Address is 0x0010 ∷ Data is 0x8002 ∷ [])) (0x00 ∷ [])
+    (Asks (I 0x008002 ∷ []) ∷ PC is 0x8012 ∷ Held is 0 ∷ Cycles is 1 ∷ [])
+    ∷ row (emulation (Held is 1 ∷ IR is 0xD0 ∷ TCU is 2 ∷ z is 1 ∷ PC is 0x80F0 ∷ Address is 0x0020 ∷ Data is 0x80F0 ∷ [])) (0x00 ∷ 0x00 ∷ [])
+    (Asks (I 0x0080F0 ∷ I 0x0080F0 ∷ []) ∷ PC is 0x8110 ∷ Held is 0 ∷ Cycles is 2 ∷ [])
+    ∷ row (emulation (Held is 1 ∷ IR is 0xD0 ∷ TCU is 3 ∷ z is 1 ∷ PC is 0x8012 ∷ Address is 0x0010 ∷ Data is 0x8002 ∷ [])) (0x00 ∷ [])
+    (Asks (I 0x008002 ∷ []) ∷ PC is 0x8012 ∷ Held is 0 ∷ Cycles is 1 ∷ [])
     -- 6: the last cycle and the one past it
     ∷ row (native8 (Held is 1 ∷ IR is 0xEA ∷ TCU is 1 ∷ PC is 0x8001 ∷ [])) (0x00 ∷ []) (Asks (I 0x008001 ∷ []) ∷ Cycles is 1 ∷ [])
     ∷ row (native8 (Held is 1 ∷ IR is 0xEA ∷ TCU is 2 ∷ PC is 0x8001 ∷ [])) (0x00 ∷ []) (Asks [] ∷ Refusal is 6 ∷ [])
