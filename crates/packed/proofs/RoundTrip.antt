@@ -173,11 +173,11 @@ and-right false true h = refl
 and-right false false h = h
 
 -- n elements from place k on
-abbrev from : (n k : ℕ) → List ℕ → List ℕ
+abbrev pub from : (n k : ℕ) → List ℕ → List ℕ
 from zero k b = []
 from (suc n) k b = getD b k 0 ∷ from n (suc k) b
 
-from-drop : (n k : ℕ) (b : List ℕ) → length b ≡ k + n → from n k b ≡ drop k b
+pub from-drop : (n k : ℕ) (b : List ℕ) → length b ≡ k + n → from n k b ≡ drop k b
 from-drop zero k b e = sym (drop-of-length-le b {i = k} (omega arith))
 from-drop (suc n) k b e = rw (from-drop n (suc k) b (omega arith)) (sym (drop-cons b k 0 (omega arith)))
 

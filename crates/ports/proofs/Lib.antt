@@ -1,2 +1,5 @@
 pub mod Laws
 pub mod SessionLaws
+pub mod Refused
+pub mod SessionBytes
+pub mod Fields
