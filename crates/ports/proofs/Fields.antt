@@ -31,7 +31,8 @@ use Rattle.step.specs.Cycle.{microOf, askedBy, requestOf}
 use Rattle.packed.specs.Packed.{unpack, unpacked, byteAt}
 use Rattle.packed.specs.declared.types.Unpacked.the-variants.{Good}
 use Rattle.packed.proofs.RoundTrip.{good-record}
-use Rattle.ports.specs.Ports.{kindNumber, askedNumber, requestNumber}
+use Rattle.step.specs.Answers.{kindNumber}
+use Rattle.ports.specs.Ports.{askedBits, requestNumber}
 use Rattle.ports.proofs.Refused.{Bytes}
 
 -- ---- the ranges of the code's types
@@ -253,7 +254,7 @@ module _ (a b k w : ℕ) (ha : a < 16777216) (hb : b < 256) (hk : k < 4) (hw : w
   fourth : (a + b * 16777216 + k * 4294967296 + w * 1099511627776) / 1099511627776 ≡ w
   fourth = omega arith
 
-fields : (q : Request) → q .addr < 16777216 → q .byte < 256 → Fields q (askedNumber (asked.Ask q))
+fields : (q : Request) → q .addr < 16777216 → q .byte < 256 → Fields q (askedBits (asked.Ask q))
 fields q h g =
     let k = kind-small (q .kind) in
     let w = bit-small (q .write) in

@@ -16,12 +16,12 @@ use Rattle.packed.specs.Packed.{pack, unpacked, isPacked, byteAt}
 use Rattle.packed.specs.declared.types.Unpacked.{Unpacked}
 use Rattle.packed.specs.declared.types.Unpacked.the-variants.{Good, Bad}
 use Rattle.packed.proofs.RoundTrip.{found-again, good-packed, good-record, pack-unpack}
-use Rattle.ports.specs.Ports.{askedNumber, requestNumber, answeredBy, answerBytes, Ran, runNumber, ranTo, runBytes, Spelt, traceNumber, speltTo, traceBytes}
+use Rattle.ports.specs.Ports.{askedBits, requestNumber, answeredBy, answerBytes, Ran, runNumber, ranTo, runBytes, Spelt, traceNumber, speltTo, traceBytes}
 use Rattle.ports.proofs.Laws.{answer-bad, run-bad, run-good, trace-bad, trace-good, text-1, text-2, text-3, text-4}
 
 -- ---- a packed record
 
-pub request-packed : (r : Record) → requestNumber (pack r) ≡ askedNumber (requestOf r)
+pub request-packed : (r : Record) → requestNumber (pack r) ≡ askedBits (requestOf r)
 unfolding requestNumber
 request-packed r = rw (found-again r)
 

@@ -8,13 +8,12 @@ use lib.ListN.{length, take}
 use Rattle.words.specs.Words.{pick, bit}
 use Rattle.cpu.specs.Record.{numberOf}
 use Rattle.cpu.specs.declared.types.Record.{Record}
-use Rattle.cpu.specs.declared.types.Kind.{Kind}
-use Rattle.cpu.specs.declared.types.Kind.the-variants as kind
 use Rattle.cpu.specs.declared.types.Refusal.the-variants.{Memory, Budget, Room, Malformed}
 use Rattle.cpu.specs.declared.types.Asked.{Asked}
 use Rattle.cpu.specs.declared.types.Asked.the-variants.{Ask, No}
 use Rattle.cpu.specs.declared.types.Answer.{Answer}
 use Rattle.cpu.specs.declared.types.Answer.the-variants.{Next, Refused}
+use Rattle.step.specs.Answers.{kindNumber}
 use Rattle.step.specs.Cycle.{requestOf, answerOf}
 use Rattle.run.specs.Runs.{End, wholeRun, size, most}
 use Rattle.traced.specs.Traces.{Written, wholePiece, roomOf}
@@ -24,20 +23,14 @@ use Rattle.packed.specs.declared.types.Unpacked.the-variants.{Good, Bad}
 
 -- ---- glavorint_request
 
-abbrev pub kindNumber : Kind → ℕ
-kindNumber kind.Opcode = 0
-kindNumber kind.Program = 1
-kindNumber kind.Data = 2
-kindNumber kind.Invalid = 3
-
 -- bits 0-23 address, 24-31 byte, 32-39 kind, 40 write; or 48-55 refusal alone
-abbrev pub askedNumber : Asked → ℕ
-askedNumber (Ask q) = q .addr + q .byte * 16777216 + kindNumber (q .kind) * 4294967296 + bit (q .write) * 1099511627776
-askedNumber (No n) = numberOf n * 281474976710656
+abbrev pub askedBits : Asked → ℕ
+askedBits (Ask q) = q .addr + q .byte * 16777216 + kindNumber (q .kind) * 4294967296 + bit (q .write) * 1099511627776
+askedBits (No n) = numberOf n * 281474976710656
 
 abbrev pub requestFrom : Unpacked → ℕ
-requestFrom (Good r) = askedNumber (requestOf r)
-requestFrom Bad = askedNumber (No Malformed)
+requestFrom (Good r) = askedBits (requestOf r)
+requestFrom Bad = askedBits (No Malformed)
 
 unfoldable pub requestNumber : List ℕ → ℕ
 requestNumber b = requestFrom (unpacked b)

@@ -16,7 +16,7 @@ use Rattle.packed.specs.declared.types.Unpacked.{Unpacked}
 use Rattle.packed.specs.declared.types.Unpacked.the-variants as record-is
 use Rattle.ports.specs.declared.types.Opened.{Opened}
 use Rattle.ports.specs.declared.types.Opened.the-variants.{Good, Bad}
-use Rattle.ports.specs.Ports.{Answered, askedNumber}
+use Rattle.ports.specs.Ports.{Answered, askedBits}
 
 unfoldable pub countAt : List ℕ → ℕ
 countAt s =
@@ -41,8 +41,8 @@ opened s = pick (eqb (length s) 40) (openedBy (unpacked (take 32 s)) (countAt s)
 -- ---- glavorint_session_request
 
 abbrev pub requestBy : Opened → ℕ
-requestBy (Good s) = askedNumber (requestOf (s .at))
-requestBy Bad = askedNumber (No Malformed)
+requestBy (Good s) = askedBits (requestOf (s .at))
+requestBy Bad = askedBits (No Malformed)
 
 unfoldable pub sessionRequest : List ℕ → ℕ
 sessionRequest s = requestBy (opened s)

@@ -1,7 +1,8 @@
 // One cycle of a packed record: what it asks, and the record after the answered byte.
 ghost use mathlib.Core.Path.{_≡_};
 ghost use Prim.Native.Nat.{_≤_};
-ghost use Rattle.ports.specs.Ports.{kindNumber, askedNumber, requestNumber, answerBytes};
+ghost use Rattle.step.specs.Answers.{kindNumber};
+ghost use Rattle.ports.specs.Ports.{askedBits, requestNumber, answerBytes};
 use cpu::record::number;
 use cpu::types::Answer;
 use cpu::types::Asked;
@@ -43,7 +44,7 @@ fn wide(n: u8) -> u64
 
 // What is asked, or why nothing is, in one number.
 pub fn asked_number(a: Asked) -> u64
-    ensures { λ n. ⌜ n ≡ askedNumber a ⌝ }
+    ensures { λ n. ⌜ n ≡ askedBits a ⌝ }
 {
     match a {
         Asked::Ask(q) => {
