@@ -1,6 +1,6 @@
 -- What the exported functions come to, by what the bytes are found to be.
-use Prim.Native.Nat.{ℕ, zero, suc, _+_, _*_, _≤_, _<_}
-use mathlib.Core.Path.{_≡_, refl, sym, ap, _∙_}
+use Prim.Native.Nat.{ℕ, _+_, _≤_, _<_}
+use mathlib.Core.Path.{_≡_, refl}
 use mathlib.Core.Bool.{Bool, true, false}
 use mathlib.Core.List.{List, []}
 use native.Mathlib.Omega.{arith}
@@ -18,8 +18,8 @@ use Rattle.packed.specs.Packed.{pack, unpacked}
 use Rattle.packed.specs.declared.types.Unpacked.{Unpacked}
 use Rattle.packed.specs.declared.types.Unpacked.the-variants.{Good, Bad}
 use Rattle.trace.specs.Text.{header}
-use Rattle.run.specs.Runs.{wholeRun, runOf, size, most}
-use Rattle.traced.specs.Traces.{Written, head, pieceText, roomOf, untouched, pieceOf, wholePiece}
+use Rattle.run.specs.Runs.{wholeRun, size, most}
+use Rattle.traced.specs.Traces.{Written, head, roomOf, untouched, pieceOf, wholePiece}
 use Rattle.traced.proofs.Laws.{run-count, piece-short}
 use Rattle.ports.specs.Ports.{answerBytes, runBytes, runNumber, unfit, ranTo, traceBytes, traceNumber, unfitText, speltTo}
 

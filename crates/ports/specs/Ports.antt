@@ -1,13 +1,11 @@
 -- What the exported functions answer: a number with fields of bits, and every byte of what was lent. Definitions that the core is proved
 -- against give the answers; here they are only taken from bytes and put back into them.
-use Prim.Native.Nat.{ℕ, _+_, _*_, _/_, _%_}
-use mathlib.Core.Bool.{Bool, _&&_}
-use mathlib.Core.List.{List, [], _∷_, _++_}
+use Prim.Native.Nat.{ℕ, _+_, _*_}
+use mathlib.Core.List.{List}
 use lib.Dec.{eqb, leb}
-use lib.ListN.{length, take}
+use lib.ListN.{length}
 use Rattle.words.specs.Words.{pick, bit}
 use Rattle.cpu.specs.Record.{numberOf}
-use Rattle.cpu.specs.declared.types.Record.{Record}
 use Rattle.cpu.specs.declared.types.Kind.{Kind}
 use Rattle.cpu.specs.declared.types.Kind.the-variants as kind
 use Rattle.cpu.specs.declared.types.Refusal.the-variants.{Memory, Budget, Room, Malformed}
