@@ -1,7 +1,6 @@
 -- Bytes that a loop puts one after the other are put at once.
 use Prim.Native.Nat.{ℕ, zero, suc, _+_, _≤_, _<_}
-use mathlib.Core.Path.{_≡_, refl, sym, ap, _∙_}
-use mathlib.Core.Bool.{Bool, true, false}
+use mathlib.Core.Path.{_≡_, _∙_}
 use mathlib.Core.List.{List, [], _∷_, _++_, append-nil}
 use native.Mathlib.Omega.{arith}
 use native.Mathlib.Nat.{add-zero, zero-add, not-suc-le-zero}
@@ -9,7 +8,6 @@ use native.Mathlib.Numerals.{add-one}
 use borrow.Author.Tests.{le-leb, lt-leb}
 use lib.ListN.{length, set, take, drop, getD, drop-of-length-le, length-append, length-drop}
 use lib.Seq.{sets, sets-eq, take-length, take-at}
-use Rattle.words.specs.Words.{pick}
 use Rattle.packed.specs.Packed.{placed}
 
 sets-suc : (s t : List ℕ) (at i : ℕ) → i < length s → set (sets t at (take i s)) (at + i) (getD s i 0) ≡ sets t at (take (suc i) s)

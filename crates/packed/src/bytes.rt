@@ -12,7 +12,8 @@ use words::join;
 use words::low;
 use words::one_if;
 
-// P as the flags are; in emulation M and X aren't looked at as set, so that any record comes back.
+// P as the flags are. `as_byte` sets M and X in emulation, where a record that isn't well formed may have them clear; so it is asked as
+// in native mode, and any record comes back.
 fn status(f: Flags) -> u8
     ensures { λ p. ⌜ p ≡ statusOf f ⌝ }
 {

@@ -1,10 +1,10 @@
 -- A request's number has its fields apart: address, byte, kind and direction can be read off their bits.
 use Prim.Native.Nat.{ℕ, _+_, _*_, _/_, _%_, _≤_, _<_}
-use mathlib.Core.Path.{_≡_, refl, sym, subst, ap, _∙_}
+use mathlib.Core.Path.{_≡_, sym, subst}
 use mathlib.Core.Bool.{Bool, true, false, _||_}
 use mathlib.Core.List.{List}
 use native.Mathlib.Omega.{arith}
-use Rattle.words.specs.Words.{pick, bit, lowOf, highOf, word, inc, dec, sum16, at, sum24, pageOne}
+use Rattle.words.specs.Words.{bit, lowOf, highOf, word, inc, dec, sum16, at, sum24, pageOne}
 use Rattle.flags.specs.Flags.{weigh, byteOf}
 use Rattle.flags.specs.declared.Flags.{Flags}
 use Rattle.cpu.specs.Record.{regsOf, sourceOf, pulled}
@@ -12,7 +12,6 @@ use Rattle.cpu.specs.declared.types.Record.{Record}
 use Rattle.cpu.specs.declared.types.Request.{Request}
 use Rattle.cpu.specs.declared.types.Kind.{Kind}
 use Rattle.cpu.specs.declared.types.Kind.the-variants as kind
-use Rattle.cpu.specs.declared.types.Reg.{Reg}
 use Rattle.cpu.specs.declared.types.Reg.the-variants.{A, X, Y}
 use Rattle.cpu.specs.declared.types.Source.{Source}
 use Rattle.cpu.specs.declared.types.Source.the-variants as of

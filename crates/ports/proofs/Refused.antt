@@ -1,10 +1,9 @@
 -- Whoever lends a packed record gets the core's own answers; what is refused before any cycle leaves every lent byte as it was.
 use Prim.Native.Nat.{ℕ, _+_, _*_, _≤_, _<_}
 use mathlib.Core.Path.{_≡_, refl, sym, ap, _∙_}
-use mathlib.Core.Bool.{Bool, true, false}
+use mathlib.Core.Bool.{false}
 use mathlib.Core.List.{List}
 use borrow.Author.Tests.{eq-eqb, ne-eqb, le-leb, lt-leb}
-use lib.Dec.{leb}
 use lib.ListN.{length}
 use Rattle.cpu.specs.declared.types.Record.{Record}
 use Rattle.step.specs.Cycle.{requestOf, answerOf}

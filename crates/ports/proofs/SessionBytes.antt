@@ -1,12 +1,10 @@
 -- A session comes back from its bytes, and bytes that are a session from their session: a refused cycle leaves them as they were.
-use Prim.Native.Nat.{ℕ, zero, suc, _+_, _*_, _/_, _%_, _≤_, _<_}
-use mathlib.Core.Path.{_≡_, refl, sym, ap, _∙_}
-use mathlib.Core.Bool.{Bool, true, false}
+use Prim.Native.Nat.{ℕ, zero, suc, _+_, _*_, _/_, _%_, _<_}
+use mathlib.Core.Path.{_≡_, refl, ap, _∙_}
 use mathlib.Core.List.{List, [], _∷_, _++_}
 use native.Mathlib.Omega.{arith}
-use lib.Dec.{eqb}
 use borrow.Author.Tests.{eq-eqb}
-use lib.ListN.{length, take, drop, getD, take-append-drop}
+use lib.ListN.{length, take, drop, take-append-drop}
 use lib.Seq.{take-at}
 use Rattle.cpu.specs.declared.types.Record.{Record}
 use Rattle.session.specs.Sessions.{sessionAt, answeredTo, cycledOver}
@@ -16,7 +14,6 @@ use Rattle.packed.specs.Packed.{pack, unpacked, byteAt}
 use Rattle.packed.specs.declared.types.Unpacked.{Unpacked}
 use Rattle.packed.specs.declared.types.Unpacked.the-variants as record-is
 use Rattle.packed.proofs.RoundTrip.{found-again, pack-length, from-drop}
-use Rattle.ports.specs.declared.types.Opened.{Opened}
 use Rattle.ports.specs.declared.types.Opened.the-variants.{Good, Bad}
 use Rattle.ports.specs.Sessions.{countAt, countBytes, packSession, openedBy, opened, sessionAnswer, sessionCycle}
 use Rattle.ports.proofs.Refused.{Bytes, same-bytes}

@@ -7,7 +7,6 @@ use cpu::record::number;
 use cpu::types::Answer;
 use cpu::types::Asked;
 use cpu::types::Kind;
-use cpu::types::Request;
 use packed::bytes::pack;
 use packed::bytes::put;
 use packed::bytes::unpack;

@@ -1,7 +1,6 @@
 // Bench sessions as 40 bytes: the work is done by value, and the bytes are taken apart before and put together after it.
 ghost use mathlib.Core.Path.{_≡_};
 ghost use Prim.Native.Nat.{_+_, _*_, _≤_, _<_};
-ghost use mathlib.Core.Bool.{true};
 ghost use lib.Dec.{eqb};
 ghost use lib.ListN.{length};
 ghost use Rattle.words.specs.Words.{pick};
