@@ -3,7 +3,9 @@
 -- What a refusal is given for stands in Refusals; here: the two entries refuse alike, and after a write the byte is ignored.
 use Prim.Native.Nat.{ℕ, _≤_}
 use mathlib.Core.Path.{_≡_, refl, sym, ap, subst, _∙_}
+use mathlib.Core.List.{[]}
 use mathlib.Core.Logic.{_⊎_, inl, inr}
+use lib.ListN.{length}
 use mathlib.Core.Bool.{Bool, true, false, _&&_}
 use Rattle.cpu.specs.Record.{numberOf}
 use Rattle.cpu.specs.declared.types.Record.{Record}
@@ -29,7 +31,7 @@ use Rattle.cycles.specs.declared.types.Micro.{Micro}
 use Rattle.cycles.specs.declared.types.Micro.the-variants.{Refuse, Fetch, Held}
 use Rattle.bus.specs.Bus.{askOf}
 use Rattle.act.specs.Act.{midAfter, regsAfter, wayOf, actOf}
-use Rattle.step.specs.Answers.{answerNumber}
+use Rattle.step.specs.Answers.{answerNumber, askedNumber, askedValues}
 use Rattle.step.specs.Cycle.{microOf, askedBy, answeredBy, requestOf, answerOf}
 use Rattle.sheet.proofs.Walk.{and-left, and-right, false-true}
 use Rattle.sheet.proofs.Rows.{writing, deafMove, deafChange, deafTo, fine, silent, inOrder, micro-in-order}
@@ -68,6 +70,18 @@ numbers a (refused n e p q) =
 
 pub demand-1-numbers : (r : Record) (b : ℕ) → let n : ℕ = answerNumber (answerOf r b) in (n ≡ 0) ⊎ ((4 ≤ n) × (n ≤ 6))
 demand-1-numbers r b = numbers (answerOf r b) (demand-1 r b)
+
+-- A request that is made has its four values and the number 0; one that is refused has no values, and 4 to 6.
+abbrev Told : Asked → Type 0
+Told a =
+    ((askedNumber a ≡ 0) × (length (askedValues a) ≡ 4)) ⊎ ((4 ≤ askedNumber a) × (askedNumber a ≤ 6) × (askedValues a ≡ []))
+
+told : (a : Asked) → Question a → Told a
+told a (asked q e) = subst Told (sym e) (inl (refl, refl))
+told a (declined n e p q) = subst Told (sym e) (inr (p, q, refl))
+
+pub demand-1-request-numbers : (r : Record) → Told (requestOf r)
+demand-1-request-numbers r = told (requestOf r) (demand-1-request r)
 
 -- ---- what the request refuses, the answer refuses, whatever the byte
 refused-by : (m : Micro) (r : Record) (b : ℕ) (n : Refusal) → askedBy m r ≡ No n → answeredBy m r b ≡ Refused n
