@@ -20,7 +20,7 @@ reads k p = record { write = false; kind = k; addr = p; byte = 0 }
 abbrev pub writes : ℕ → ℕ → Request
 writes p v = record { write = true; kind = kind.Data; addr = p; byte = v }
 
--- the program's next byte; absolute data and the byte after, a 24-bit sum; an address of bank 0; an entry of a table
+-- the program's next byte; absolute data and the byte after, a 24-bit sum; an entry of a table
 abbrev pub here : Record → ℕ
 here r = at (r .pbr) (r .pc)
 

@@ -106,7 +106,7 @@ ended ir again pbr pc s dbr g =
       tempbank = 0;
     }
 
--- ---- the stack pointer after a push or a pull, in the crate's four forms, and RTL's first pull
+-- ---- the stack pointer after a push that stays in page 1, after a pull in the crate's two forms, and after RTL's first; a raw push is one step down
 unfoldable pub pushed : (e : Bool) → ℕ → ℕ
 pushed e s = pageOne e (dec s)
 

@@ -52,7 +52,8 @@ fn unfit(rec: Record, budget: u32) -> Outcome
     }
 }
 
-// At most `budget` cycles over a lent memory that stands for bank 0.
+// At most `budget` cycles over a lent memory that stands for bank 0. Refused at once by 1 for a memory that isn't 65,536 bytes and by 2 for a budget
+// above 1,000,000; on the way by 4 to 7, with the cycles that were completed and what they wrote.
 pub fn run(rec: Record, mem: &mut [u8], budget: u32) -> Outcome
     ensures { λ o. ⌜ (o ≡ told (wholeRun budget rec (now (mem .entry)))) × (now (mem .exit) ≡ wholeRun budget rec (now (mem .entry)) .mem) ⌝ }
 {

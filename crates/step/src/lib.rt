@@ -59,6 +59,7 @@ fn begin(r: Record, b: u8) -> Answer
     }
 }
 
+// What a cycle asks, once it is known what it does.
 pub fn request_at(r: Record, m: Micro) -> Asked
     ensures { λ q. ⌜ q ≡ askedBy m r ⌝ }
 {
@@ -69,6 +70,7 @@ pub fn request_at(r: Record, m: Micro) -> Asked
     }
 }
 
+// What the answered byte makes of the record, likewise.
 pub fn answer_at(r: Record, m: Micro, b: u8) -> Answer
     ensures { λ n. ⌜ n ≡ answeredBy m r b ⌝ }
 {

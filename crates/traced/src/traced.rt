@@ -115,7 +115,8 @@ fn piece(rec: Record, mem: &mut [u8], text: &mut [u8], before: u32, budget: u32)
     }
 }
 
-// At most `budget` cycles over a lent memory that stands for bank 0, with a line for each in a lent text, `before` cycles having been done.
+// At most `budget` cycles over a lent memory that stands for bank 0, with a line for each in a lent text, `before` cycles having been done. Refused at
+// once by 1, by 2 where `before` and the budget come to more than 1,000,000, and by 3 where the text is too short; on the way by 4 to 7.
 pub fn traced_piece(
     rec: Record,
     mem: &mut [u8],
