@@ -426,6 +426,16 @@ fn limits() {
     expect("S outside page 1", run(&State { e: true, s: 0x200, ..from }, 65536, 1), (4, 0));
     expect("X above FF", run(&State { x: 0x100, ..from }, 65536, 1), (4, 0));
     expect("bank 1", run(&State { pbr: 1, ..from }, 65536, 1), (7, 0));
+    for (room, want) in [(94, (0, 4)), (93, (3, 0))] {
+        let (mut ours, mut memory, mut text) = (Ours::at(&from), vec![0xEAu8; 65536], vec![0u8; room]);
+        let said = unsafe { glavorint_trace(ours.bytes.as_mut_ptr(), 32, memory.as_mut_ptr(), 65536, text.as_mut_ptr(), room, 0, 4) };
+        expect("text room", ((said >> 56) as u8, said as u32 & 0xFF_FFFF), want);
+    }
+    for (cycle, want) in [(0, 6), (1, 0), (2, 6), (255, 6)] {
+        let mut ours = Ours::at(&from);
+        ours.bytes[1..4].copy_from_slice(&[1, 0xEA, cycle]);
+        expect("a cycle of NOP", (ours.request().err().unwrap_or(0), 0), (want, 0));
+    }
     for op in 0..=255u8 {
         let mut ours = Ours::at(&from);
         let n = ours.answer(op);
