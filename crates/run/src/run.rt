@@ -1,10 +1,12 @@
-// Refusals 1 and 2 once, then cycle after cycle. Well-formedness is tested once: every cycle keeps it.
+// Refusals 1 and 2 once, then whole instructions as far as they go, and cycles. Well-formedness is tested once: every cycle keeps it.
 ghost use mathlib.Core.Path.{_≡_};
 ghost use mathlib.Core.Bool.{true};
-ghost use Prim.Native.Nat.{_≤_};
+ghost use Prim.Native.Nat.{_≤_, _<_};
 ghost use lib.ListN.{length};
 ghost use Rattle.cpu.specs.Record.{wellFormed};
-ghost use Rattle.run.specs.Runs.{told, outcome, malformed, runOf, wholeRun};
+ghost use Rattle.stride.specs.Strides.{fresh, stretch};
+ghost use Rattle.run.specs.Runs.{told, outcome, malformed, runOf, wholeRun, size};
+ghost use Rattle.run.specs.Passes.{Goes};
 use crate::types::Outcome;
 use cpu::record::well_formed;
 use cpu::types::Record;
@@ -12,6 +14,10 @@ use memory::turn::refused_by;
 use memory::turn::turn;
 use memory::types::Turn;
 use step::well_micro;
+use stride::stride::haul;
+use stride::stride::stride;
+use stride::types::Stretch;
+use words::both;
 
 fn ended(refusal: u8, cycles: u32, after: Record) -> Outcome
     ensures { λ o. ⌜ o ≡ outcome refusal cycles after ⌝ }
@@ -23,14 +29,109 @@ fn ended(refusal: u8, cycles: u32, after: Record) -> Outcome
     }
 }
 
-// The cycles of a run whose memory, budget and record are found good.
+fn stretch_of(cycles: u32, after: Record) -> Stretch
+    ensures { λ t. ⌜ t ≡ stretch cycles after ⌝ }
+{
+    Stretch {
+        cycles: cycles,
+        after: after,
+    }
+}
+
+// What a fresh record is anyway: said once, it needn't be carried from turn to turn.
+fn cleared(r: Record) -> Record
+    requires { ⌜ (wellFormed r ≡ true) × (fresh r ≡ true) ⌝ }
+    ensures { λ n. ⌜ n ≡ r ⌝ }
+{
+    let f = r.flags;
+    Record {
+        a: r.a,
+        x: r.x,
+        y: r.y,
+        s: r.s,
+        d: r.d,
+        pc: r.pc,
+        pbr: 0,
+        dbr: r.dbr,
+        flags: f,
+        held: false,
+        ir: 0,
+        tcu: 0,
+        tempaddr: 0,
+        tempdata: 0,
+        tempbank: 0,
+    }
+}
+
+// As many instructions as there is room for; a cycle at least is left.
+fn strides(r: Record, mem: &mut [u8], budget: u32) -> Stretch
+    requires { ⌜ (length (now mem) ≡ size) × (wellFormed r ≡ true) × (fresh r ≡ true) × (0 < budget) ⌝ }
+    ensures { λ t. ⌜ Goes r (now (mem .entry)) t (now (mem .exit)) ⌝ }
+    ensures less { λ t. ⌜ t .cycles < budget ⌝ }
+{
+    let mut at = cleared(r);
+    let mut left = budget;
+    while left > 8 {
+        let t = stride(at, mem);
+        at = t.after;
+        if t.cycles == 0 {
+            return stretch_of(budget - left, at);
+        }
+        left -= t.cycles;
+    }
+    stretch_of(budget - left, at)
+}
+
+// As many bytes as there is room for, likewise.
+fn hauls(r: Record, mem: &mut [u8], budget: u32) -> Stretch
+    requires { ⌜ (length (now mem) ≡ size) × (wellFormed r ≡ true) × (0 < budget) ⌝ }
+    ensures { λ t. ⌜ Goes r (now (mem .entry)) t (now (mem .exit)) ⌝ }
+    ensures less { λ t. ⌜ t .cycles < budget ⌝ }
+{
+    let mut at = r;
+    let mut left = budget;
+    while left > 8 {
+        let t = haul(at, mem);
+        at = t.after;
+        if t.cycles == 0 {
+            return stretch_of(budget - left, at);
+        }
+        left -= t.cycles;
+    }
+    stretch_of(budget - left, at)
+}
+
+fn is_fresh(r: Record) -> bool
+    ensures { λ t. ⌜ t ≡ fresh r ⌝ }
+{
+    both(both(r.pbr == 0, !r.held), both(r.ir == 0, r.tcu == 0))
+}
+
+// Whole instructions, or bytes of a move, as far as they go.
+fn ahead(r: Record, mem: &mut [u8], budget: u32) -> Stretch
+    requires { ⌜ (length (now mem) ≡ size) × (wellFormed r ≡ true) × (0 < budget) ⌝ }
+    ensures { λ t. ⌜ Goes r (now (mem .entry)) t (now (mem .exit)) ⌝ }
+    ensures less { λ t. ⌜ t .cycles < budget ⌝ }
+{
+    let start = is_fresh(r);
+    if start {
+        strides(r, mem, budget)
+    } else {
+        hauls(r, mem, budget)
+    }
+}
+
+// The cycles of a run whose memory, budget and record are found good: whole instructions as far as they go, then a cycle.
 fn cycles(rec: Record, mem: &mut [u8], budget: u32) -> Outcome
-    requires { ⌜ wellFormed rec ≡ true ⌝ }
+    requires { ⌜ (length (now mem) ≡ size) × (wellFormed rec ≡ true) ⌝ }
     ensures { λ o. ⌜ (o ≡ told (runOf budget rec (now (mem .entry)))) × (now (mem .exit) ≡ runOf budget rec (now (mem .entry)) .mem) ⌝ }
 {
     let mut at = rec;
     let mut done: u32 = 0;
     while done < budget {
+        let far = ahead(at, mem, budget - done);
+        at = far.after;
+        done += far.cycles;
         let t = turn(well_micro(at), at, mem);
         let Turn::Done(_, next) = t else {
             return ended(refused_by(t), done, at);

@@ -1,6 +1,6 @@
 use Prim.Native.Nat.{_-_, _≤_}
 use mathlib.Core.Bool.{true}
-use mathlib.Core.Path.{_≡_, refl, sym}
+use mathlib.Core.Path.{_≡_, refl, sym, _∙_}
 use native.Mathlib.Omega.{arith}
 use native.Mathlib.Nat.{sub-zero}
 use lib.ListN.{length}
@@ -8,6 +8,7 @@ use borrow.Author.Needs.{needs}
 use Rattle.cpu.specs.Record.{wellFormed}
 use Rattle.run.specs.Runs.{runOf}
 use Rattle.run.proofs.Laws.{Left, left-all, left-done, left-stop, left-end, left-told, turned, still-well}
+use Rattle.run.proofs.Stretches.{left-ahead}
 use Rattle.run.proofs.run.cycles.Statement.{statement}
 use Rattle.run.proofs.run.cycles.Tie as tie
 
@@ -19,7 +20,16 @@ abbrev μ-loop : tie.MeasureT-loop
 μ-loop mem₀ budget at₀ done₀ mem at done = budget - done
 
 loop-holds : tie.Need-loop-holds Inv-loop μ-loop
-loop-holds c = (omega arith, refl, c .before .pre, rw sub-zero (left-all _))
+loop-holds c = (omega arith, refl, c .before .pre .1, rw sub-zero (left-all _))
+
+sub-ahead : tie.Need-sub-ahead Inv-loop μ-loop
+sub-ahead c = search needs
+
+ahead-requires : tie.Need-ahead-requires Inv-loop μ-loop
+ahead-requires c κs = let i = c .before .before .loop .inv in (i .1 ∙ c .before .before .before .before .pre .0, i .2, omega (arith, c .before .loop-test .taken))
+
+add-done : tie.Need-add-done Inv-loop μ-loop
+add-done c = omega (arith, c .before .before .before .before .ahead .ensures .1, c .before .before .before .before .before .before .loop-test .taken)
 
 well-micro-requires : tie.Need-well-micro-requires Inv-loop μ-loop
 well-micro-requires c κs = search needs
@@ -40,30 +50,38 @@ ended-requires : tie.Need-ended-requires Inv-loop μ-loop
 ended-requires c κs = search needs
 
 same-length : tie.Need-same-length Inv-loop μ-loop
-same-length c = omega (arith, c .before .before .before .before .before .before .turn .kept .1 .1 .0, c .before .before .before .before .before .before .before .before .before .before .loop .inv .1)
+same-length c = omega (arith, c .before .before .before .before .before .before .turn .kept .1 .1 .0, c .before .before .before .before .before .before .before .before .before .before .before .before .before .ahead .kept .1 .0, c .before .before .before .before .before .before .before .before .before .before .before .before .before .before .before .before .loop .inv .1)
 
 returns : tie.Need-returns Inv-loop μ-loop
 returns c =
     let y = c .before .before .before .before .before .before .turn .ensures in
-    let i = c .before .before .before .before .before .before .before .before .before .before .loop .inv in
-    let t = turned _ _ _ _ (i .2) (c .before .before .before .before .before .before .before .before .well-micro .ensures) (y .0) in
+    let z = c .before .before .before .before .before .before .before .before .before .before .before .before .before .ahead .ensures in
+    let i = c .before .before .before .before .before .before .before .before .before .before .before .before .before .before .before .before .loop .inv in
+    let t = turned _ _ _ _ (z .0 .1) (c .before .before .before .before .before .before .before .before .well-micro .ensures) (y .0) in
     let g = c .before .before .enum-told .given .1 in
-    let a = left-stop _ _ _ _ _ _ _ _ (c .before .before .before .before .before .before .before .before .before .loop-test .taken) t (y .1) g (i .3) in
+    let far = left-ahead _ _ _ _ _ _ _ _ (z .1) (z .0 .0) (i .3) in
+    let a = left-stop _ _ _ _ _ _ _ _ (omega (arith, z .1)) t (y .1) g far in
     (rw (c .ended .ensures, c .before .refused-by .ensures, g) (left-told _ _ _ _ _ a), sym (a .mem))
 
-add-done : tie.Need-add-done Inv-loop μ-loop
-add-done c = search needs
+add-done-2 : tie.Need-add-done-2 Inv-loop μ-loop
+add-done-2 c = omega (arith, c .before .before .before .before .before .before .before .before .before .before .before .before .ahead .ensures .1, c .before .before .before .before .before .before .before .before .before .before .before .before .before .before .before .before .before .fits .budget)
 
 loop-less : tie.Need-loop-less Inv-loop μ-loop
-loop-less c = search needs
+loop-less c = omega (arith, c .before .before .before .before .before .before .before .before .before .before .before .before .ahead .ensures .1)
 
 loop-again : tie.Need-loop-again Inv-loop μ-loop
 loop-again c =
     let y = c .before .before .before .before .before .turn .ensures in
-    let i = c .before .before .before .before .before .before .before .before .before .loop .inv in
-    let t = turned _ _ _ _ (i .2) (c .before .before .before .before .before .before .before .well-micro .ensures) (y .0) in
+    let z = c .before .before .before .before .before .before .before .before .before .before .before .before .ahead .ensures in
+    let i = c .before .before .before .before .before .before .before .before .before .before .before .before .before .before .before .loop .inv in
+    let t = turned _ _ _ _ (z .0 .1) (c .before .before .before .before .before .before .before .well-micro .ensures) (y .0) in
     let g = c .before .t .given .1 in
-    (omega arith, omega (arith, c .before .before .before .before .before .turn .kept .1 .1 .0, i .1), still-well _ _ _ _ _ t g, left-done _ _ _ _ _ _ _ _ _ (c .before .before .before .before .before .before .before .before .loop-test .taken) t (y .1) g (i .3))
+    let far = left-ahead _ _ _ _ _ _ _ _ (z .1) (z .0 .0) (i .3) in (
+      omega (arith, z .1),
+      omega (arith, c .before .before .before .before .before .turn .kept .1 .1 .0, c .before .before .before .before .before .before .before .before .before .before .before .before .ahead .kept .1 .0, i .1),
+      still-well _ _ _ _ _ t g,
+      left-done _ _ _ _ _ _ _ _ _ (omega (arith, z .1)) t (y .1) g far,
+    )
 
 ended-requires-2 : tie.Need-ended-requires-2 Inv-loop μ-loop
 ended-requires-2 c κs = search needs
@@ -83,6 +101,9 @@ cycles-spec =
     Inv-loop
     μ-loop
     loop-holds
+    sub-ahead
+    ahead-requires
+    add-done
     well-micro-requires
     turn-requires
     enum-known-t
@@ -91,7 +112,7 @@ cycles-spec =
     ended-requires
     same-length
     returns
-    add-done
+    add-done-2
     loop-less
     loop-again
     ended-requires-2

@@ -23,7 +23,7 @@ well-formed-requires : tie.Need-well-formed-requires
 well-formed-requires c κs = search needs
 
 cycles-requires : tie.Need-cycles-requires
-cycles-requires c κs = sym (c .before .before .well-formed .ensures) ∙ c .before .if3 .taken
+cycles-requires c κs = (c .before .before .before .before .if1 .left, sym (c .before .before .well-formed .ensures) ∙ c .before .if3 .taken)
 
 unfit-requires : tie.Need-unfit-requires
 unfit-requires c κs = search needs

@@ -1,0 +1,37 @@
+use borrow.Author.Needs.{needs}
+use mathlib.Core.Path.{sym, _∙_}
+use Rattle.run.proofs.run.ahead.Statement.{statement}
+use Rattle.run.proofs.run.ahead.Tie as tie
+
+is-fresh-requires : tie.Need-is-fresh-requires
+is-fresh-requires c κs = search needs
+
+strides-requires : tie.Need-strides-requires
+strides-requires c κs = let h = c .before .before .before .before .pre in (h .0, h .1, sym (c .before .before .is-fresh .ensures) ∙ c .before .if1 .taken, h .2)
+
+hauls-requires : tie.Need-hauls-requires
+hauls-requires c κs = c .before .before .before .before .pre
+
+same-length : tie.Need-same-length
+same-length c = search needs
+
+returns : tie.Need-returns
+returns c = c .before .before .strides .ensures
+
+same-length-2 : tie.Need-same-length-2
+same-length-2 c = search needs
+
+returns-2 : tie.Need-returns-2
+returns-2 c = c .before .before .hauls .ensures
+
+pub ahead-spec : {M : Type 1} → statement M
+ahead-spec =
+    tie.close
+    (tie.spec
+    is-fresh-requires
+    strides-requires
+    hauls-requires
+    same-length
+    returns
+    same-length-2
+    returns-2)
