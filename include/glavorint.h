@@ -1,6 +1,6 @@
 /* Glavorint: a 65C816 whose every bus cycle is proved equal to a definition written from the chip's data sheet.
  *
- * The functions of target/staticlib/libports.a, which `rt staticlib ports` makes. They take numbers and lent bytes, keep nothing between calls,
+ * The functions of target/library/libglavorint.a, which library/build.sh makes. They take numbers and lent bytes, keep nothing between calls,
  * allocate nothing and use nothing of the C library, so any number of machines may run side by side.
  *
  * What a caller has to keep to, since no proof reaches across the call: every pointer is to as many bytes as the length beside it says, and
@@ -71,11 +71,16 @@ uint64_t glavorint_session_request(const uint8_t *session, size_t session_length
 uint8_t glavorint_session_answer(uint8_t *session, size_t session_length, uint8_t byte);
 uint8_t glavorint_session_cycle(uint8_t *session, size_t session_length, uint8_t *memory, size_t memory_length);
 
+/* At most `count` such cycles one after another, up to the first that is refused; any count will do. Bits 0-31 completed cycles, 32-39 the
+ * refusal, or 0. Session and memory are those that the completed cycles come to. Bytes that aren't a session are refused whatever the count, with
+ * 1 or else 4; a session only by a cycle, so a count of 0 refuses none. */
+uint64_t glavorint_session_cycles(uint8_t *session, size_t session_length, uint8_t *memory, size_t memory_length, uint32_t count);
+
 #ifdef __cplusplus
 }
 #endif
 
-/* The fields of the numbers above. */
+/* The fields of the numbers above; RUN's are those of glavorint_session_cycles too. */
 #define GLAVORINT_REQUEST_ADDRESS(n) ((uint32_t)((n) & 0xFFFFFF))
 #define GLAVORINT_REQUEST_BYTE(n) ((uint8_t)((n) >> 24))
 #define GLAVORINT_REQUEST_KIND(n) ((uint8_t)((n) >> 32))

@@ -1,5 +1,5 @@
 #!/bin/sh
-# The first trace in C, linked to the proved library, where a C compiler is at hand. Run it after `rt check ports`.
+# The first trace in C, linked to the proved library, where a C compiler is at hand. library/build.sh makes the library.
 set -eu
 cd "$(dirname "$0")/.."
 if ! command -v cc >/dev/null; then
@@ -8,8 +8,8 @@ if ! command -v cc >/dev/null; then
 fi
 out=target/c
 mkdir -p $out
-rt staticlib ports >$out/say 2>&1 || { cat $out/say; exit 1; }
-cc -std=c99 -Wall -Wextra -Werror -O2 -Iinclude examples/c/first_trace.c target/staticlib/libports.a -o $out/first_trace
+library/build.sh >$out/say 2>&1 || { cat $out/say; exit 1; }
+cc -std=c99 -Wall -Wextra -Werror -O2 -Iinclude examples/c/first_trace.c target/library/libglavorint.a -o $out/first_trace
 $out/first_trace >$out/text
 printf 'bus\t1\n1\tO\tR\t008000\t18\n2\tI\tR\t008001\t69\n3\tO\tR\t008001\t69\n4\tP\tR\t008002\t01\n' | cmp - $out/text
 echo "c: the first trace is the paper's"

@@ -1,7 +1,7 @@
 /* A first trace: CLC and ADC #01 at 8000, in native mode with 8-bit registers. Prints the trace of their four cycles.
  *
- *     rt staticlib ports
- *     cc examples/c/first_trace.c -Iinclude target/staticlib/libports.a -o first_trace
+ *     library/build.sh
+ *     cc examples/c/first_trace.c -Iinclude target/library/libglavorint.a -o first_trace
  *     ./first_trace
  */
 #include <stdio.h>

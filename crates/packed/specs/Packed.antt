@@ -5,7 +5,7 @@
 --   16 PBR   17 DBR   18 P   19 E, 0 or 1
 --   20 address scratch   22 data scratch   24 bank scratch   25 to 31 reserved, 0
 use Prim.Native.Nat.{ℕ, _+_}
-use mathlib.Core.Bool.{Bool, _&&_}
+use mathlib.Core.Bool.{Bool, false, _&&_}
 use mathlib.Core.List.{List, [], _∷_}
 use lib.Dec.{eqb, ltb, leb}
 use lib.ListN.{length, getD}
@@ -35,6 +35,27 @@ flagsOf p e = record {
   overflow = bitOf p 64;
   negative = bitOf p 128;
   emulation = e;
+}
+
+-- ---- ten words, at an instruction's start
+
+unfoldable pub startOf : (a x y s d pc pbr dbr p : ℕ) (e : Bool) → Record
+startOf a x y s d pc pbr dbr p e = record {
+  a = a;
+  x = x;
+  y = y;
+  s = s;
+  d = d;
+  pc = pc;
+  pbr = pbr;
+  dbr = dbr;
+  flags = flagsOf p e;
+  held = false;
+  ir = 0;
+  tcu = 0;
+  tempaddr = 0;
+  tempdata = 0;
+  tempbank = 0;
 }
 
 -- ---- a record's bytes

@@ -2,7 +2,7 @@
 ghost use mathlib.Core.Path.{_≡_};
 ghost use Prim.Native.Nat.{_+_, _<_};
 ghost use lib.ListN.{length};
-ghost use Rattle.packed.specs.Packed.{statusOf, flagsOf, pack, unpack, wordAt, reserved, regular, unpacked, placed};
+ghost use Rattle.packed.specs.Packed.{statusOf, flagsOf, startOf, pack, unpack, wordAt, reserved, regular, unpacked, placed};
 use crate::types::Unpacked;
 use cpu::types::Record;
 use flags::Flags;
@@ -56,6 +56,42 @@ fn flags_of(p: u8, e: bool) -> Flags
         overflow: f.overflow,
         negative: f.negative,
         emulation: e,
+    }
+}
+
+// The record of ten words, at an instruction's start: A X Y S D PC PBR DBR P E, as the paper writes a state. P is taken as it is, so that
+// one that isn't well formed in emulation is the core's to refuse.
+pub fn start(
+    a: u16,
+    x: u16,
+    y: u16,
+    s: u16,
+    d: u16,
+    pc: u16,
+    pbr: u8,
+    dbr: u8,
+    p: u8,
+    e: bool,
+) -> Record
+    ensures { λ r. ⌜ r ≡ startOf a x y s d pc pbr dbr p e ⌝ }
+{
+    let f = flags_of(p, e);
+    Record {
+        a: a,
+        x: x,
+        y: y,
+        s: s,
+        d: d,
+        pc: pc,
+        pbr: pbr,
+        dbr: dbr,
+        flags: f,
+        held: false,
+        ir: 0,
+        tcu: 0,
+        tempaddr: 0,
+        tempdata: 0,
+        tempbank: 0,
     }
 }
 

@@ -1,2 +1,0 @@
-pub mod Ports
-pub mod Sessions

@@ -1,0 +1,24 @@
+#!/bin/sh
+# The Rust crate's tests and examples over the proved library, where cargo is at hand. library/build.sh makes the library.
+set -eu
+cd "$(dirname "$0")/.."
+if ! command -v cargo >/dev/null; then
+    echo "rust: not run: there is no cargo"
+    exit 0
+fi
+out=target/rust
+mkdir -p $out
+library/build.sh >$out/say 2>&1 || { cat $out/say; exit 1; }
+unset GLAVORINT_LIBRARY
+crate() {
+    cargo "$@" --quiet --offline --locked --manifest-path rust/Cargo.toml --target-dir $out
+}
+crate test >$out/tests 2>&1 || { cat $out/tests; exit 1; }
+passed=$(awk '/^test result: ok/ { n += $4 } END { print n + 0 }' $out/tests)
+[ "$passed" -gt 0 ] || { cat $out/tests; exit 1; }
+crate run --example first_trace >$out/text
+printf 'bus\t1\n1\tO\tR\t008000\t18\n2\tI\tR\t008001\t69\n3\tO\tR\t008001\t69\n4\tP\tR\t008002\t01\n' | cmp - $out/text
+crate run --example add_deliveries >$out/slip
+echo '8 deliveries, 29402 litres, 183 cycles' >$out/last
+tail -n 1 $out/slip | cmp - $out/last
+echo "rust: $passed tests passed, the first trace is the paper's, and $(cat $out/last)"
