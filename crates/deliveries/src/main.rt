@@ -2,7 +2,6 @@
 // demand 3. The first delivery to the last is also one run; it must come to the same record.
 ghost use Prim.Native.Nat.{_<_};
 use cpu::types::Record;
-use flags::Flags;
 use libc::STDOUT_FILENO;
 use run::run::run;
 use std::num::wrapping_add_u64;
@@ -153,34 +152,12 @@ fn deliver_all(mem: &mut [u8; 65536], wide: bool, from: Record) -> Yard {
     y
 }
 
-// Decimal mode on, A 95 or 9995.
+// Decimal mode on, the index registers 8 bits wide, A 95 or 9995.
 fn start(wide: bool) -> Record {
-    Record {
-        a: if wide { 0x9995 } else { 0x0095 },
-        x: 0,
-        y: 0,
-        s: 0x01FF,
-        d: 0,
-        pc: 0,
-        pbr: 0,
-        dbr: 0,
-        flags: Flags {
-            carry: false,
-            zero: false,
-            interruptdisable: false,
-            decimal: true,
-            indexsel: true,
-            memsel: !wide,
-            overflow: false,
-            negative: false,
-            emulation: false,
-        },
-        held: false,
-        ir: 0,
-        tcu: 0,
-        tempaddr: 0,
-        tempdata: 0,
-        tempbank: 0,
+    if wide {
+        packed::bytes::start(0x9995, 0, 0, 0x01FF, 0, 0, 0, 0, 0x18, false)
+    } else {
+        packed::bytes::start(0x0095, 0, 0, 0x01FF, 0, 0, 0, 0, 0x38, false)
     }
 }
 

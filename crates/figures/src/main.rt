@@ -1,18 +1,13 @@
-// Runs document 01's figures and prints what came: those of single instructions through `request` and `answer`, with all that was asked of the bus
-// and the byte that was answered, then those of runs. The file 'stdout' has what the paper says.
-mod runs;
+// Runs document 01's figures of single instructions through `request` and `answer` and prints what came, with all that was asked of the bus
+// and the byte that was answered. The file 'stdout' has what the paper says.
 mod say;
 mod single;
 
 fn main() {
     single::arithmetic();
-    single::jumps();
+    single::branches();
+    single::returns();
     single::widths();
     single::others();
     single::pairs();
-    runs::moves();
-    runs::refusals();
-    runs::written();
-    runs::traces();
-    runs::sessions();
 }

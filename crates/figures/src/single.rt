@@ -73,122 +73,209 @@ fn figure(name: &[u8], from: Record, bytes: &[u8]) -> Record {
     at
 }
 
+// A figure from such a start.
+fn show(name: &[u8], emulation: bool, p: u8, a: u16, s: u16, pc: u16, bytes: &[u8]) {
+    figure(name, start(emulation, p, a, s, pc), bytes);
+}
+
 // P: M is 20, X 10, D 08, C 01.
 pub fn arithmetic() {
-    figure(
+    show(
         b"decimal, 8 bit: 99 + 01, C 0",
-        start(false, 0xF8, 0x0099, 0x01FF, 0x8000),
+        false,
+        0xF8,
+        0x0099,
+        0x01FF,
+        0x8000,
         b"\x69\x01",
     );
-    figure(
+    show(
         b"decimal, 16 bit: 9999 + 0001, C 0",
-        start(false, 0x08, 0x9999, 0x01FF, 0x8000),
+        false,
+        0x08,
+        0x9999,
+        0x01FF,
+        0x8000,
         b"\x69\x01\x00",
     );
-    figure(
+    show(
         b"decimal, 8 bit: 00 - 01, C 1",
-        start(false, 0x79, 0x0000, 0x01FF, 0x8000),
+        false,
+        0x79,
+        0x0000,
+        0x01FF,
+        0x8000,
         b"\xE9\x01",
     );
-    figure(
+    show(
         b"decimal, 8 bit: 0F + 0F, C 1",
-        start(false, 0x39, 0x000F, 0x01FF, 0x8000),
+        false,
+        0x39,
+        0x000F,
+        0x01FF,
+        0x8000,
         b"\x69\x0F",
     );
-    figure(
+    show(
         b"binary, 8 bit: 7F + 01, C 0",
-        start(false, 0x30, 0x007F, 0x01FF, 0x8000),
+        false,
+        0x30,
+        0x007F,
+        0x01FF,
+        0x8000,
         b"\x69\x01",
     );
-    figure(
+    show(
         b"CMP 16 bit, 1234 with 1235",
-        start(false, 0x03, 0x1234, 0x01FF, 0x8000),
+        false,
+        0x03,
+        0x1234,
+        0x01FF,
+        0x8000,
         b"\xC9\x35\x12",
     );
-    figure(
+    show(
         b"XBA on 8000",
-        start(false, 0x32, 0x8000, 0x01FF, 0x8000),
+        false,
+        0x32,
+        0x8000,
+        0x01FF,
+        0x8000,
         b"\xEB\x00\x00",
     );
 }
 
-pub fn jumps() {
-    figure(
+pub fn branches() {
+    show(
         b"BRL at 0000, displacement FFFD",
-        start(false, 0x30, 0, 0x01FF, 0x0000),
+        false,
+        0x30,
+        0,
+        0x01FF,
+        0x0000,
         b"\x82\xFD\xFF\x00",
     );
-    figure(
+    show(
         b"BRA at 80FD, displacement 01, emulation",
-        start(true, 0x30, 0, 0x01FF, 0x80FD),
+        true,
+        0x30,
+        0,
+        0x01FF,
+        0x80FD,
         b"\x80\x01\x00\x00",
     );
-    figure(
+    show(
         b"BRA at 80FD, displacement 01, native",
-        start(false, 0x30, 0, 0x01FF, 0x80FD),
+        false,
+        0x30,
+        0,
+        0x01FF,
+        0x80FD,
         b"\x80\x01\x00",
     );
-    figure(
+    show(
         b"BRA at 80FC, displacement 01, emulation",
-        start(true, 0x30, 0, 0x01FF, 0x80FC),
+        true,
+        0x30,
+        0,
+        0x01FF,
+        0x80FC,
         b"\x80\x01\x00",
     );
-    figure(
+    show(
         b"BRA at 80FC, displacement 01, native",
-        start(false, 0x30, 0, 0x01FF, 0x80FC),
+        false,
+        0x30,
+        0,
+        0x01FF,
+        0x80FC,
         b"\x80\x01\x00",
     );
-    figure(
+}
+
+pub fn returns() {
+    show(
         b"RTL, emulation, S 01FE",
-        start(true, 0x30, 0, 0x01FE, 0x8000),
+        true,
+        0x30,
+        0,
+        0x01FE,
+        0x8000,
         b"\x6B\x00\x00\x34\x12\x00",
     );
-    figure(
+    show(
         b"RTS, emulation, S 01FE",
-        start(true, 0x30, 0, 0x01FE, 0x8000),
+        true,
+        0x30,
+        0,
+        0x01FE,
+        0x8000,
         b"\x60\x00\x00\x34\x12\x00",
     );
 }
 
 // M and X unlike: the accumulator's width is M's.
 pub fn widths() {
-    figure(
+    show(
         b"LDA #, 16-bit accumulator, 8-bit index",
-        start(false, 0x10, 0, 0x01FF, 0x8000),
+        false,
+        0x10,
+        0,
+        0x01FF,
+        0x8000,
         b"\xA9\x34\x12",
     );
-    figure(
+    show(
         b"LDX #, 8-bit accumulator, 16-bit index",
-        start(false, 0x20, 0, 0x01FF, 0x8000),
+        false,
+        0x20,
+        0,
+        0x01FF,
+        0x8000,
         b"\xA2\x34\x12",
     );
 }
 
 pub fn others() {
-    let r = start(false, 0x00, 0, 0x01FF, 0x8000);
     figure(
         b"LDA absolute 16 bit, DBR 01, FFFF",
-        Record { dbr: 1, ..r },
+        packed::bytes::start(0, 0, 0, 0x01FF, 0, 0x8000, 0, 1, 0x00, false),
         b"\xAD\xFF\xFF\x78\x56",
     );
-    figure(
+    show(
         b"BIT immediate C0, A 3F, 8 bit, N and V set",
-        start(false, 0xF0, 0x003F, 0x01FF, 0x8000),
+        false,
+        0xF0,
+        0x003F,
+        0x01FF,
+        0x8000,
         b"\x89\xC0",
     );
-    figure(
+    show(
         b"JMP (FFFF)",
-        start(false, 0x30, 0, 0x01FF, 0x8000),
+        false,
+        0x30,
+        0,
+        0x01FF,
+        0x8000,
         b"\x6C\xFF\xFF\x34\x12",
     );
-    figure(
+    show(
         b"an opcode that isn't listed",
-        start(false, 0x30, 0, 0x01FF, 0x8000),
+        false,
+        0x30,
+        0,
+        0x01FF,
+        0x8000,
         b"\x00",
     );
-    figure(
+    show(
         b"a record that isn't well formed: emulation, S 0200",
-        start(true, 0x30, 0, 0x0200, 0x8000),
+        true,
+        0x30,
+        0,
+        0x0200,
+        0x8000,
         b"\xEA",
     );
 }

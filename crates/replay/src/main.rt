@@ -1,14 +1,10 @@
 // Replays a file of single instructions, named by the argument, through `request` and `answer`: prints each line that differs and totals.
-// One case a line; `form` has the format.
-mod course;
-mod form;
+// One case a line; crates/lines has the format, crates/course what is compared.
 mod report;
-mod state;
 mod tally;
-mod text;
 
+use lines::types::Tally;
 use report::say;
-use tally::Tally;
 
 // What one read of the file came to.
 enum Reading {
@@ -32,7 +28,7 @@ fn turn(fd: i32, t: Tally, room: &mut [u8], counts: &mut [u64; 512]) -> Reading 
 
 // Nothing says that a file ends, so the turns are counted down from a number that no run uses up.
 fn read_all(fd: i32, room: &mut [u8], counts: &mut [u64; 512]) -> Reading {
-    let mut t = tally::start();
+    let mut t = lines::tally::start();
     let mut turns = u64::MAX;
     while turns > 0 {
         let got = turn(fd, t, room, counts);

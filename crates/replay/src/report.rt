@@ -1,25 +1,26 @@
 // What is said of a line that differs or is malformed, of an opcode, and of them all.
-use crate::course::Course;
-use crate::course::Met;
-use crate::course::ends_alike;
-use crate::course::is_home;
-use crate::course::request_text;
-use crate::form::Fault;
-use crate::form::Places;
-use crate::form::cycle_end;
-use crate::state::words_of;
-use crate::text::digit;
-use crate::text::past;
+use course::asked::request_text;
+use course::run::ends_alike;
+use course::run::is_home;
+use course::types::Course;
+use course::types::Difference;
+use course::types::Met;
 use cpu::record::number;
 use cpu::types::Record;
-use cpu::types::Request;
 use libc::STDOUT_FILENO;
+use lines::form::cycle_end;
+use lines::state::words_of;
+use lines::text::digit;
+use lines::text::past;
+use lines::types::Fault;
+use lines::types::Places;
 
 pub fn say(text: &[u8]) {
     io::write_all(STDOUT_FILENO, text);
 }
 
-fn say_number(n: u64) {
+fn say_number(name: &[u8], n: u64) {
+    say(name);
     io::print_decimal(STDOUT_FILENO, n);
 }
 
@@ -45,65 +46,67 @@ fn say_reason(f: Fault) {
 }
 
 pub fn malformed(line: u64, f: Fault) {
-    say(b"line ");
-    say_number(line);
+    say_number(b"line ", line);
     say(b": malformed: ");
     say_reason(f);
     say(b"\n");
 }
 
-fn head(line: u64, text: &[u8], p: Places, what: &[u8]) {
-    say(b"line ");
-    say_number(line);
+// The line's number and its id, which ends at that place.
+fn head(line: u64, text: &[u8], id: usize) {
+    say_number(b"line ", line);
     say(b" ");
-    say_part(text, 0, p.id);
-    say(b": ");
-    say(what);
+    say_part(text, 0, id);
 }
 
-fn say_request(text: &[u8], at: usize, q: Request) {
-    let asked = request_text(text, at, q);
-    say(&asked);
-}
-
-fn say_met(text: &[u8], at: usize, met: Met) {
-    match met {
-        Met::Agreed(_) => say(b"the same"),
-        Met::Asked(q) => say_request(text, at, q),
-        Met::Refused(n) => {
-            say(b"refused ");
-            say_number(number(n) as u64);
+fn say_difference(text: &[u8], at: usize, d: Difference) {
+    match d {
+        Difference::Asked(q) => {
+            let asked = request_text(text, at, q);
+            say(&asked);
         }
-        Met::Ended => say(b"nothing: the instruction ended"),
+        Difference::Refused(n) => say_number(b"refused ", number(n) as u64),
+        Difference::Ended => say(b"nothing: the instruction ended"),
     }
 }
 
-fn cycle_differs(line: u64, text: &[u8], p: Places, c: Course) {
-    let at = c.at;
-    let met = c.met;
-    head(line, text, p, b"cycle ");
-    say_number(c.cycle as u64);
+// What the line has at a place, and what came instead.
+fn say_both(text: &[u8], at: usize, d: Difference) {
     say(b": expected ");
     say_part(text, at, cycle_end(text, at));
     say(b", asked ");
-    say_met(text, at, met);
+    say_difference(text, at, d);
+    say(b"\n");
+}
+
+fn still_under_way(line: u64, text: &[u8], id: usize, count: usize) {
+    head(line, text, id);
+    say_number(b": cycles: expected ", count as u64);
+    say(b", still under way\n");
+}
+
+fn words_differ(text: &[u8], after: usize, r: Record) {
+    let words = words_of(r);
+    say(b": after: expected ");
+    say_part(text, after, past(after, 40));
+    say(b", got ");
+    say(&words);
     say(b"\n");
 }
 
 fn end_differs(line: u64, text: &[u8], p: Places, r: Record) {
     if !is_home(r) {
-        head(line, text, p, b"cycles: expected ");
-        say_number(p.count as u64);
-        say(b", still under way\n");
+        still_under_way(line, text, p.id, p.count);
     }
     if !ends_alike(text, p, r) {
-        let words = words_of(r);
-        head(line, text, p, b"after: expected ");
-        say_part(text, p.after, past(p.after, 40));
-        say(b", got ");
-        say(&words);
-        say(b"\n");
+        head(line, text, p.id);
+        words_differ(text, p.after, r);
     }
+}
+
+fn cycle_differs(line: u64, text: &[u8], id: usize, cycle: usize) {
+    head(line, text, id);
+    say_number(b": cycle ", cycle as u64);
 }
 
 // A line's block: the first cycle that differs, or what differs at the end.
@@ -111,9 +114,10 @@ pub fn block(line: u64, text: &[u8], p: Places, c: Course) {
     let met = c.met;
     match met {
         Met::Agreed(r) => end_differs(line, text, p, r),
-        Met::Asked(_) => cycle_differs(line, text, p, c),
-        Met::Refused(_) => cycle_differs(line, text, p, c),
-        Met::Ended => cycle_differs(line, text, p, c),
+        Met::Differs(d) => {
+            cycle_differs(line, text, p.id, c.cycle);
+            say_both(text, c.at, d);
+        }
     }
 }
 
@@ -122,21 +126,16 @@ pub fn opcode_total(opcode: u8, replayed: u64, differ: u64) {
     if differ > 0 {
         say(b"opcode ");
         say(&[digit(opcode / 16), digit(opcode)]);
-        say(b": ");
-        say_number(replayed);
-        say(b" replayed, ");
-        say_number(differ);
+        say_number(b": ", replayed);
+        say_number(b" replayed, ", differ);
         say(b" differ\n");
     }
 }
 
 pub fn total(lines: u64, agree: u64, differ: u64, bad: u64) {
-    say_number(lines);
-    say(b" lines: ");
-    say_number(agree);
-    say(b" agree, ");
-    say_number(differ);
-    say(b" differ, ");
-    say_number(bad);
+    io::print_decimal(STDOUT_FILENO, lines);
+    say_number(b" lines: ", agree);
+    say_number(b" agree, ", differ);
+    say_number(b" differ, ", bad);
     say(b" bad\n");
 }

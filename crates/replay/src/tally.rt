@@ -1,48 +1,26 @@
 // The lines, taken from the file's bytes one after the other, and what they come to.
-use crate::course::is_same;
-use crate::course::run;
-use crate::form::Fault;
-use crate::form::Line;
-use crate::form::Places;
-use crate::form::read;
 use crate::report::block;
 use crate::report::malformed;
 use crate::report::opcode_total;
 use crate::report::say;
 use crate::report::total;
-use crate::text::byte_of;
-use crate::text::is_at;
-use crate::text::past;
+use course::run::is_same;
+use course::run::run;
 use libc::STDERR_FILENO;
+use lines::form::read;
+use lines::tally::agreed;
+use lines::tally::differed;
+use lines::tally::lines;
+use lines::tally::next;
+use lines::tally::spoiled;
+use lines::text::byte_of;
+use lines::text::is_at;
+use lines::text::past;
+use lines::types::Fault;
+use lines::types::Line;
+use lines::types::Places;
+use lines::types::Tally;
 use std::num::wrapping_add_u64;
-
-// The number of the line that is being read and how much of it has come; then what the lines before it came to.
-pub struct Tally {
-    pub number: u64,
-    pub size: usize,
-    pub agree: u64,
-    pub differ: u64,
-    pub bad: u64,
-}
-
-pub fn start() -> Tally {
-    Tally {
-        number: 1,
-        size: 0,
-        agree: 0,
-        differ: 0,
-        bad: 0,
-    }
-}
-
-fn more(n: u64) -> u64 {
-    wrapping_add_u64(n, 1)
-}
-
-// Cases and malformed lines.
-fn lines(t: Tally) -> u64 {
-    wrapping_add_u64(wrapping_add_u64(t.agree, t.differ), t.bad)
-}
 
 // `counts` has the cases replayed, by opcode, and from here on those that differ.
 const DIFFERING: usize = 256;
@@ -50,7 +28,7 @@ const DIFFERING: usize = 256;
 fn count(counts: &mut [u64; 512], i: usize) {
     if i < 512 {
         let n = counts[i];
-        counts[i] = more(n);
+        counts[i] = wrapping_add_u64(n, 1);
     }
 }
 
@@ -84,25 +62,16 @@ fn take_case(t: Tally, text: &[u8], p: Places, counts: &mut [u64; 512]) -> Tally
     let opcode = byte_of(text, 0) as usize;
     count(counts, opcode);
     if judge(t, text, p) {
-        Tally {
-            agree: more(t.agree),
-            ..t
-        }
+        agreed(t)
     } else {
         count(counts, past(DIFFERING, opcode));
-        Tally {
-            differ: more(t.differ),
-            ..t
-        }
+        differed(t)
     }
 }
 
 fn take_malformed(t: Tally, f: Fault) -> Tally {
     malformed(t.number, f);
-    Tally {
-        bad: more(t.bad),
-        ..t
-    }
+    spoiled(t)
 }
 
 // A line without its end. Comments and empty lines are passed over.
@@ -128,12 +97,7 @@ fn end_line(t: Tally, room: &[u8], counts: &mut [u64; 512]) -> Tally {
     if size > room.len() {
         return t;
     }
-    let done = take_line(t, &room[0..size], counts);
-    Tally {
-        number: more(done.number),
-        size: 0,
-        ..done
-    }
+    next(take_line(t, &room[0..size], counts))
 }
 
 // One byte more of a line. `room` has one byte more than a line may have: one that fills it is too long, and what follows is dropped.
