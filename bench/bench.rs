@@ -7,11 +7,10 @@ extern "C" {
     fn glavorint_run(record: *mut u8, len: usize, memory: *mut u8, size: usize, budget: u32) -> u64;
     #[rustfmt::skip]
     fn glavorint_trace(record: *mut u8, len: usize, memory: *mut u8, size: usize, text: *mut u8, room: usize, before: u32, budget: u32) -> u64;
-    fn glavorint_session_cycle(session: *mut u8, len: usize, memory: *mut u8, size: usize) -> u8;
+    fn glavorint_session_cycles(session: *mut u8, len: usize, memory: *mut u8, size: usize, count: u32) -> u64;
 }
 
 const BUDGET: u32 = 200_000;
-const STEPS: u32 = 20_000;
 
 struct Bus {
     mem: Vec<u8>,
@@ -142,9 +141,7 @@ fn plain(r: &mut [u8; 40], mem: &mut Vec<u8>, budget: u32) {
 }
 
 fn stepped(r: &mut [u8; 40], mem: &mut Vec<u8>, budget: u32) {
-    for _ in 0..budget {
-        unsafe { glavorint_session_cycle(r.as_mut_ptr(), 40, mem.as_mut_ptr(), mem.len()) };
-    }
+    unsafe { glavorint_session_cycles(r.as_mut_ptr(), 40, mem.as_mut_ptr(), mem.len(), budget) };
 }
 
 /// Ours over the crate's, best and median.
@@ -174,7 +171,7 @@ fn main() {
         let (a, b, c) = (
             ratio(&row, BUDGET, rounds, &mut plain),
             ratio(&row, BUDGET, rounds, &mut traced),
-            ratio(&row, STEPS, rounds, &mut stepped),
+            ratio(&row, BUDGET, rounds, &mut stepped),
         );
         println!("{:18} {:5.2} ({:4.2}) {:5.2} ({:4.2}) {:5.2} ({:4.2})", row.name, a.0, a.1, b.0, b.1, c.0, c.1);
     }

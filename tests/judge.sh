@@ -1,6 +1,6 @@
 #!/bin/sh
 # A short seeded part of the comparison with the crate w65c816 0.1.17, where Rust and the crate's source are at hand: W65C816 names the folder of
-# its lib.rs, if it isn't beside the checkout. Run it after `rt check ports`.
+# its lib.rs, if it isn't beside the checkout. library/build.sh makes the library.
 set -eu
 cd "$(dirname "$0")/.."
 source=${W65C816:-../shared/docs/src/src}
