@@ -7,6 +7,7 @@ use crate::mid::target_of;
 use crate::regs::regs_after;
 use crate::types::Way;
 use cpu::record::finished;
+use cpu::record::regs;
 use cpu::record::taken;
 use cpu::record::under_way;
 use cpu::types::Mid;
@@ -67,7 +68,11 @@ fn arrive(w: Way, ir: u8, tcu: u8, g: Regs, t: Mid) -> Record
 pub fn act(m: Move, c: Change, t: To, o: Operation, r: Record, b: u8) -> Record
     ensures { λ n. ⌜ n ≡ actOf m c t o r b ⌝ }
 {
-    let g = regs_after(c, o, r, b);
     let n = mid_after(m, o, r, b);
-    arrive(way(t, o, r, b), r.ir, r.tcu, g, n)
+    let w = way(t, o, r, b);
+    // Most cycles leave the registers alone, and so needn't carry them through what might change them.
+    let Change::Keep = c else {
+        return arrive(w, r.ir, r.tcu, regs_after(c, o, r, b), n);
+    };
+    arrive(w, r.ir, r.tcu, regs(r), n)
 }

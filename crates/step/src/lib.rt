@@ -18,7 +18,7 @@ use cpu::types::Kind;
 use cpu::types::Record;
 use cpu::types::Refusal;
 use cycles::types::Micro;
-use opcodes::opcode::decode;
+use herdbook::entry;
 use opcodes::opcode::listed;
 use phase::held_micro;
 
@@ -29,7 +29,7 @@ pub fn well_micro(r: Record) -> Micro
     let held = r.held;
     if held {
         let f = r.flags;
-        held_micro(decode(r.ir), f, r.d, r.tcu)
+        held_micro(entry(r.ir), f, r.d, r.tcu)
     } else {
         Micro::Fetch
     }
