@@ -3,7 +3,7 @@
 # where they aren't yet. include/glavorint.h says what a caller has to know.
 set -eu
 cd "$(dirname "$0")/.."
-ports="cycle_port run_port trace_port session_port"
+ports="cycle_port run_port trace_port session_port walk_port"
 
 fail() {
     echo "library: not built: $1" >&2

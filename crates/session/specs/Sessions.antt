@@ -3,13 +3,19 @@
 use Prim.Native.Nat.{ℕ, _+_}
 use mathlib.Core.List.{List}
 use lib.Dec.{eqb, ltb}
+use lib.ListN.{length}
 use Rattle.words.specs.Words.{pick}
 use Rattle.cpu.specs.Record.{numberOf}
 use Rattle.cpu.specs.declared.types.Record.{Record}
 use Rattle.cpu.specs.declared.types.Answer.{Answer}
 use Rattle.cpu.specs.declared.types.Answer.the-variants.{Next, Refused}
+use Rattle.cpu.specs.declared.types.Refusal.the-variants.{Memory}
+use Rattle.cycles.specs.declared.types.Micro.{Micro}
 use Rattle.step.specs.Cycle.{answerOf}
-use Rattle.run.specs.Runs.{End, wholeRun}
+use Rattle.memory.specs.Turns.{turnBy, storeOf}
+use Rattle.memory.specs.declared.types.Turn.{Turn}
+use Rattle.memory.specs.declared.types.Turn.the-variants.{Done, Stop}
+use Rattle.run.specs.Runs.{End, wholeRun, size}
 use Rattle.session.specs.declared.types.Session.{Session}
 use Rattle.session.specs.declared.types.Stepped.{Stepped}
 
@@ -56,3 +62,14 @@ cycledOver s m = afterRun (s .cycles) (oneCycle s m .number) (oneCycle s m .rec)
 
 unfoldable pub memoryOver : Session → List ℕ → List ℕ
 memoryOver s m = oneCycle s m .mem
+
+-- the same by what the cycle does; a memory that isn't 65,536 bytes is refused first
+abbrev pub turnedTo : Session → Turn → Stepped
+turnedTo s (Done l r) = stepped (sessionAt r (counted (s .cycles))) 0
+turnedTo s (Stop n) = stepped s (numberOf n)
+
+unfoldable pub cycledBy : Micro → Session → List ℕ → Stepped
+cycledBy c s m = pick (eqb (length m) size) (turnedTo s (turnBy c (s .at) m)) (stepped s (numberOf Memory))
+
+unfoldable pub memoryBy : Micro → Session → List ℕ → List ℕ
+memoryBy c s m = pick (eqb (length m) size) (storeOf (turnBy c (s .at) m) m) m

@@ -2,16 +2,19 @@
 ghost use mathlib.Core.Path.{_≡_};
 ghost use Rattle.step.specs.Cycle.{requestOf};
 ghost use Rattle.step.specs.Answers.{answerNumber};
-ghost use Rattle.session.specs.Sessions.{counted, countedIf, started, afterRun, answeredTo, cycledOver, memoryOver};
+ghost use Rattle.session.specs.Sessions.{counted, started, stepped, answeredTo, cycledBy, memoryBy, cycledOver, memoryOver};
 use crate::types::Session;
 use crate::types::Stepped;
 use cpu::record::number;
 use cpu::types::Answer;
 use cpu::types::Asked;
 use cpu::types::Record;
-use run::run::run;
-use run::types::Outcome;
+use cycles::types::Micro;
+use memory::turn::refused_by;
+use memory::turn::turn;
+use memory::types::Turn;
 use step::answer;
+use step::next_micro;
 use step::request;
 
 // The greatest count.
@@ -39,7 +42,7 @@ fn count(n: u64) -> u64
     if n < TOP { n + 1 } else { n }
 }
 
-fn refused_by(a: Answer) -> u8
+fn number_of(a: Answer) -> u8
     ensures { λ n. ⌜ n ≡ answerNumber a ⌝ }
 {
     match a {
@@ -57,7 +60,7 @@ pub fn answered(s: Session, b: u8) -> Stepped
     let Answer::Next(next) = a else {
         return Stepped {
             session: s,
-            number: refused_by(a),
+            number: number_of(a),
         };
     };
     let cycles = count(s.cycles);
@@ -70,26 +73,35 @@ pub fn answered(s: Session, b: u8) -> Stepped
     }
 }
 
-// The count after a cycle with that number: a refused one isn't counted.
-fn total(number: u8, cycles: u64) -> u64
-    ensures { λ n. ⌜ n ≡ countedIf number cycles ⌝ }
+// The session as it was, with a refusal's number.
+fn standing(s: Session, number: u8) -> Stepped
+    ensures { λ t. ⌜ t ≡ stepped s number ⌝ }
 {
-    if number == 0 { count(cycles) } else { cycles }
+    Stepped {
+        session: s,
+        number: number,
+    }
 }
 
-// A session of so many cycles, after a run of one more.
-fn after_run(before: u64, o: Outcome) -> Stepped
-    ensures { λ t. ⌜ t ≡ afterRun before (o .refusal) (o .after) ⌝ }
+// The session after what `m` does over a lent memory that stands for bank 0: the inner entry, for whoever does many cycles.
+pub fn cycled_by(m: Micro, s: Session, mem: &mut [u8]) -> Stepped
+    ensures { λ t. ⌜ (t ≡ cycledBy m s (now (mem .entry))) × (now (mem .exit) ≡ memoryBy m s (now (mem .entry))) ⌝ }
 {
-    let at = o.after;
-    let number = o.refusal;
-    let cycles = total(number, before);
+    if mem.len() != 65536 {
+        return standing(s, 1);
+    }
+    let at = s.at;
+    let t = turn(m, at, mem);
+    let Turn::Done(_, next) = t else {
+        return standing(s, refused_by(t));
+    };
+    let cycles = count(s.cycles);
     Stepped {
         session: Session {
-            at: at,
+            at: next,
             cycles: cycles,
         },
-        number: number,
+        number: 0,
     }
 }
 
@@ -98,7 +110,7 @@ pub fn cycled(s: Session, mem: &mut [u8]) -> Stepped
     ensures { λ t. ⌜ (t ≡ cycledOver s (now (mem .entry))) × (now (mem .exit) ≡ memoryOver s (now (mem .entry))) ⌝ }
 {
     let at = s.at;
-    after_run(s.cycles, run(at, mem, 1))
+    cycled_by(next_micro(at), s, mem)
 }
 
 // Changes the session by the answered byte and gives the refusal's number, or 0; a refused session stays as it was.

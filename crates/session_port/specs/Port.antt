@@ -18,7 +18,7 @@ use Rattle.session_port.specs.declared.types.Opened.{Opened}
 use Rattle.session_port.specs.declared.types.Opened.the-variants.{Good, Bad}
 use Rattle.session_port.specs.declared.types.Went.{Went}
 use Rattle.session_port.specs.declared.types.Tally.{Tally}
-use Rattle.numbers.specs.Numbers.{Answered, askedBits, runNumber}
+use Rattle.numbers.specs.Numbers.{Answered, askedBits}
 
 unfoldable pub countAt : List ℕ → ℕ
 countAt s =
@@ -104,6 +104,10 @@ wentTo s c n = record { session = s; cycles = c; number = n }
 abbrev pub toldOf : Course → Went
 toldOf e = wentTo (e .session) (e .done) (e .number)
 
+-- a session whose record isn't well formed
+abbrev pub unfitOf : (count len : ℕ) → Session → Went
+unfitOf c n s = wentTo s 0 (pick (eqb c 0) 0 (pick (eqb n size) (numberOf Malformed) (numberOf Memory)))
+
 pub record Several : Type 0 where
   pub number : ℕ
   pub done : ℕ
@@ -125,6 +129,3 @@ tallied c n = record { cycles = c; number = n }
 
 abbrev pub tallyOf : Several → Tally
 tallyOf e = tallied (e .done) (e .number)
-
-abbrev pub cyclesNumber : Several → ℕ
-cyclesNumber e = runNumber (e .number) (e .done)

@@ -6,13 +6,13 @@ ghost use lib.ListN.{length};
 ghost use Rattle.words.specs.Words.{pick};
 ghost use Rattle.run.specs.Runs.{size};
 ghost use Rattle.session.specs.Sessions.{sessionAt};
-ghost use Rattle.session_port.specs.Port.{countAt, countBytes, packSession, opened, sessionRequest, sessionAnswer, sessionCycle, sessionCycles, tallied, tallyOf, cyclesNumber};
+ghost use Rattle.session_port.specs.Port.{countAt, countBytes, packSession, opened, sessionRequest, sessionAnswer, sessionCycles, tallied, tallyOf};
 use crate::repeated::repeated;
+use crate::repeated::unfit_by;
 use crate::types::Opened;
 use crate::types::Tally;
 use cpu::types::Record;
 use numbers::numbers::asked_number;
-use numbers::numbers::run_number;
 use packed::bytes::pack;
 use packed::bytes::put;
 use packed::bytes::unpack;
@@ -122,13 +122,6 @@ pub extern "C" fn glavorint_session_answer(session: &mut [u8], byte: u8) -> u8
     t.number
 }
 
-// Why bytes that are no session do no cycle.
-fn unfit_by(len: usize) -> u8
-    ensures { λ n. ⌜ n ≡ pick (eqb len size) 4 1 ⌝ }
-{
-    if len != 65536 { 1 } else { 4 }
-}
-
 fn tally(cycles: u32, number: u8) -> Tally
     ensures { λ t. ⌜ t ≡ tallied cycles number ⌝ }
 {
@@ -138,8 +131,9 @@ fn tally(cycles: u32, number: u8) -> Tally
     }
 }
 
-// So many cycles of the session that some bytes are. Both exports come here, so that the core's cycle has one caller.
-fn cycles_of(session: &mut [u8], mem: &mut [u8], count: u32) -> Tally
+// So many cycles of the session that some bytes are, up to the first that is refused. The exports of them are walk_port's: in a library of their own
+// the core's cycle has one caller, and is inlined.
+pub fn cycles_of(session: &mut [u8], mem: &mut [u8], count: u32) -> Tally
     ensures { λ t. ⌜ (t ≡ tallyOf (sessionCycles (now (session .entry)) (now (mem .entry)) count))
         × (now (session .exit) ≡ sessionCycles (now (session .entry)) (now (mem .entry)) count .bytes)
         × (now (mem .exit) ≡ sessionCycles (now (session .entry)) (now (mem .entry)) count .mem) ⌝ }
@@ -152,26 +146,4 @@ fn cycles_of(session: &mut [u8], mem: &mut [u8], count: u32) -> Tally
     let after = w.session;
     put_session(session, after);
     tally(w.cycles, w.number)
-}
-
-// The session after a cycle over a lent memory.
-#[no_mangle]
-pub extern "C" fn glavorint_session_cycle(session: &mut [u8], mem: &mut [u8]) -> u8
-    ensures { λ n. ⌜ (n ≡ sessionCycle (now (session .entry)) (now (mem .entry)) .number)
-        × (now (session .exit) ≡ sessionCycle (now (session .entry)) (now (mem .entry)) .bytes)
-        × (now (mem .exit) ≡ sessionCycle (now (session .entry)) (now (mem .entry)) .mem) ⌝ }
-{
-    let t = cycles_of(session, mem, 1);
-    t.number
-}
-
-// The session after at most `count` cycles, up to the first that is refused.
-#[no_mangle]
-pub extern "C" fn glavorint_session_cycles(session: &mut [u8], mem: &mut [u8], count: u32) -> u64
-    ensures { λ n. ⌜ (n ≡ cyclesNumber (sessionCycles (now (session .entry)) (now (mem .entry)) count))
-        × (now (session .exit) ≡ sessionCycles (now (session .entry)) (now (mem .entry)) count .bytes)
-        × (now (mem .exit) ≡ sessionCycles (now (session .entry)) (now (mem .entry)) count .mem) ⌝ }
-{
-    let t = cycles_of(session, mem, count);
-    run_number(t.number, t.cycles)
 }

@@ -12,13 +12,13 @@ enum-known-a c = search needs
 enum-told : tie.Need-enum-told
 enum-told c = search needs
 
-refused-by-requires : tie.Need-refused-by-requires
-refused-by-requires c κs = search needs
+number-of-requires : tie.Need-number-of-requires
+number-of-requires c κs = search needs
 
 returns : tie.Need-returns
 unfolding answeredTo
 returns c = simp (
-  c .refused-by .ensures,
+  c .number-of .ensures,
   c .before .enum-told .given .1,
   ← (c .before .before .before .answer .ensures),
 )
@@ -41,7 +41,7 @@ answered-spec =
     answer-requires
     enum-known-a
     enum-told
-    refused-by-requires
+    number-of-requires
     returns
     count-requires
     returns-2)

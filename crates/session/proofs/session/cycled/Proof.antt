@@ -1,22 +1,21 @@
 use borrow.Author.Needs.{needs}
-use Rattle.session.specs.Sessions.{cycledOver, memoryOver}
+use Rattle.session.proofs.ByTurn.{own-by}
 use Rattle.session.proofs.session.cycled.Statement.{statement}
 use Rattle.session.proofs.session.cycled.Tie as tie
 
-run-requires : tie.Need-run-requires
-run-requires c κs = search needs
+next-micro-requires : tie.Need-next-micro-requires
+next-micro-requires c κs = search needs
 
-after-run-requires : tie.Need-after-run-requires
-after-run-requires c κs = search needs
+cycled-by-requires : tie.Need-cycled-by-requires
+cycled-by-requires c κs = search needs
 
 same-length : tie.Need-same-length
 same-length c = search needs
 
 returns : tie.Need-returns
-unfolding cycledOver memoryOver
 returns c =
-    let o = c .before .before .before .run .ensures in
-    (simp (c .after-run .ensures, o .0), o .1)
+    let y = c .before .before .cycled-by .ensures in
+    own-by _ _ _ _ _ (c .before .before .before .before .next-micro .ensures) (y .0) (y .1)
 
 pub cycled-spec : {M : Type 1} → statement M
-cycled-spec = tie.close (tie.spec run-requires after-run-requires same-length returns)
+cycled-spec = tie.close (tie.spec next-micro-requires cycled-by-requires same-length returns)

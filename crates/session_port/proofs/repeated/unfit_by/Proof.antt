@@ -1,6 +1,6 @@
 use borrow.Author.Tests.{eq-eqb, ne-eqb}
-use Rattle.session_port.proofs.sessions.unfit_by.Statement.{statement}
-use Rattle.session_port.proofs.sessions.unfit_by.Tie as tie
+use Rattle.session_port.proofs.repeated.unfit_by.Statement.{statement}
+use Rattle.session_port.proofs.repeated.unfit_by.Tie as tie
 
 returns : tie.Need-returns
 returns c = simp (ne-eqb _ _ (c .if1 .taken))

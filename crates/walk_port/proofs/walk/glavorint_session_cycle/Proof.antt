@@ -1,10 +1,10 @@
 use borrow.Author.Needs.{needs}
 use mathlib.Core.Path.{ap, _∙_}
 use Rattle.session_port.specs.declared.types.Tally.{Tally}
 use Rattle.session_port.specs.Port.{Cycled}
 use Rattle.session_port.proofs.Courses.{one-cycle}
-use Rattle.session_port.proofs.sessions.glavorint_session_cycle.Statement.{statement}
-use Rattle.session_port.proofs.sessions.glavorint_session_cycle.Tie as tie
+use Rattle.walk_port.proofs.walk.glavorint_session_cycle.Statement.{statement}
+use Rattle.walk_port.proofs.walk.glavorint_session_cycle.Tie as tie
 
 cycles-of-requires : tie.Need-cycles-of-requires
 cycles-of-requires c κs = search needs

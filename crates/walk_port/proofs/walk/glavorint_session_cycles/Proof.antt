@@ -1,9 +1,9 @@
 use borrow.Author.Needs.{needs}
 use mathlib.Core.Path.{ap, _∙_}
 use Rattle.numbers.specs.Numbers.{runNumber}
 use Rattle.session_port.specs.declared.types.Tally.{Tally}
-use Rattle.session_port.proofs.sessions.glavorint_session_cycles.Statement.{statement}
-use Rattle.session_port.proofs.sessions.glavorint_session_cycles.Tie as tie
+use Rattle.walk_port.proofs.walk.glavorint_session_cycles.Statement.{statement}
+use Rattle.walk_port.proofs.walk.glavorint_session_cycles.Tie as tie
 
 cycles-of-requires : tie.Need-cycles-of-requires
 cycles-of-requires c κs = search needs

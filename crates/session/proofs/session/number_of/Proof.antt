@@ -1,6 +1,6 @@
 use borrow.Author.Needs.{needs}
-use Rattle.session.proofs.session.refused_by.Statement.{statement}
-use Rattle.session.proofs.session.refused_by.Tie as tie
+use Rattle.session.proofs.session.number_of.Statement.{statement}
+use Rattle.session.proofs.session.number_of.Tie as tie
 
 enum-told : tie.Need-enum-told
 enum-told c = search needs
@@ -17,5 +17,5 @@ returns c = simp (c .enum-told .given .1)
 returns-2 : tie.Need-returns-2
 returns-2 c = simp (c .number .ensures, c .before .before .a .given .1)
 
-pub refused-by-spec : {M : Type 1} → statement M
-refused-by-spec = tie.close (tie.spec enum-told enum-known-a number-requires returns returns-2)
+pub number-of-spec : {M : Type 1} → statement M
+number-of-spec = tie.close (tie.spec enum-told enum-known-a number-requires returns returns-2)
