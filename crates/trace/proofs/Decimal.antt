@@ -47,6 +47,9 @@ pub decimal-more : (n : ℕ) → 10 ≤ n → decimal n ≡ decimal (n / 10) ++ 
 unfolding decimal
 decimal-more n h = digits-more n n h ∙ ap (λ (x : List ℕ). x ++ ((48 + n % 10) ∷ [])) (digits-fuel n (suc (n / 10)) (n / 10) (omega arith) (omega arith))
 
+pub decimal-two : (n : ℕ) → 10 ≤ n → n < 100 → decimal n ≡ (48 + n / 10) ∷ (48 + n % 10) ∷ []
+decimal-two n h k = decimal-more n h ∙ rw (decimal-one (n / 10) (omega arith))
+
 -- ---- how many
 
 more-length : (n : ℕ) → 10 ≤ n → length (decimal n) ≡ length (decimal (n / 10)) + 1

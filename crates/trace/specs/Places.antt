@@ -18,3 +18,12 @@ tens (suc k) = 10 * tens k
 abbrev pub places : ℕ → ℕ → List ℕ
 places zero n = (48 + n % 10) ∷ []
 places (suc k) n = digitAt (tens (suc k)) n ++ places k n
+
+-- the first four decimal digits of a fraction of 2 to the 32nd, each of what the one before leaves
+unfoldable pub fourOf : ℕ → List ℕ
+fourOf f =
+    (48 + f * 5 / 2147483648)
+    ∷ (48 + f * 5 % 2147483648 * 5 / 1073741824)
+    ∷ (48 + f * 5 % 2147483648 * 5 % 1073741824 * 5 / 536870912)
+    ∷ (48 + f * 5 % 2147483648 * 5 % 1073741824 * 5 % 536870912 * 5 / 268435456)
+    ∷ []

@@ -5,7 +5,7 @@ ghost use Prim.Native.Nat.{_+_, _≤_, _<_};
 ghost use lib.Dec.{leb};
 ghost use lib.ListN.{length};
 ghost use Rattle.trace.specs.Text.{decimal, hexDigit, hex2, hex6, letter, direction, lineText, header, Put, Wrote};
-ghost use Rattle.trace.specs.Places.{digitAt};
+ghost use Rattle.trace.specs.Places.{digitAt, fourOf};
 use cpu::types::Kind;
 use cpu::types::Request;
 
@@ -87,7 +87,8 @@ fn put_digit(text: &mut [u8], at: usize, n: u32, w: u32) -> usize
     at + 1
 }
 
-fn put_decimal(text: &mut [u8], at: usize, n: u32) -> usize
+// Any number, weight by weight.
+fn put_weights(text: &mut [u8], at: usize, n: u32) -> usize
     requires { ⌜ at + length (decimal n) ≤ length (now text) ⌝ }
     ensures { λ r. ⌜ Wrote (now (text .entry)) (now (text .exit)) at r (decimal n) ⌝ }
 {
@@ -102,6 +103,59 @@ fn put_decimal(text: &mut [u8], at: usize, n: u32) -> usize
     let p = put_digit(text, p, n, 10);
     text[p] = (48 + n % 10) as u8;
     p + 1
+}
+
+// A number below 100: all but the last four digits of a number below a million.
+fn put_front(text: &mut [u8], at: usize, n: u32) -> usize
+    requires { ⌜ (n < 100) × (at + length (decimal n) ≤ length (now text)) ⌝ }
+    ensures { λ r. ⌜ Wrote (now (text .entry)) (now (text .exit)) at r (decimal n) ⌝ }
+{
+    if n < 10 {
+        text[at] = (48 + n) as u8;
+        return at + 1;
+    }
+    text[at] = (48 + n / 10) as u8;
+    text[at + 1] = (48 + n % 10) as u8;
+    at + 2
+}
+
+// Four digits of a fraction of 2 to the 32nd. Ten times a fraction of 2w is five times it as one of w, so each digit is a sum and a shift.
+fn put_four(text: &mut [u8], at: usize, part: u64) -> usize
+    requires { ⌜ (part < 4294967296) × (at + 4 ≤ length (now text)) ⌝ }
+    ensures { λ r. ⌜ Wrote (now (text .entry)) (now (text .exit)) at r (fourOf part) ⌝ }
+{
+    let a = part * 5;
+    text[at] = (48 + a / 2147483648) as u8;
+    let b = a % 2147483648 * 5;
+    text[at + 1] = (48 + b / 1073741824) as u8;
+    let c = b % 1073741824 * 5;
+    text[at + 2] = (48 + c / 536870912) as u8;
+    let d = c % 536870912 * 5;
+    text[at + 3] = (48 + d / 268435456) as u8;
+    at + 4
+}
+
+// Five or six digits: the number over 10,000 as a binary fraction, 429,497 being 2 to the 32nd over 10,000, rounded up.
+fn put_scaled(text: &mut [u8], at: usize, n: u32) -> usize
+    requires { ⌜ (10000 ≤ n) × (n < 1000000) × (at + length (decimal n) ≤ length (now text)) ⌝ }
+    ensures { λ r. ⌜ Wrote (now (text .entry)) (now (text .exit)) at r (decimal n) ⌝ }
+{
+    let scaled = n as u64 * 429497;
+    let p = put_front(text, at, (scaled / 4294967296) as u32);
+    put_four(text, p, scaled % 4294967296)
+}
+
+// Nearly all lines of a long trace have a number of five or six digits.
+fn put_decimal(text: &mut [u8], at: usize, n: u32) -> usize
+    requires { ⌜ at + length (decimal n) ≤ length (now text) ⌝ }
+    ensures { λ r. ⌜ Wrote (now (text .entry)) (now (text .exit)) at r (decimal n) ⌝ }
+{
+    if 10000 <= n {
+        if n < 1000000 {
+            return put_scaled(text, at, n);
+        }
+    }
+    put_weights(text, at, n)
 }
 
 fn letter_of(kind: Kind) -> u8
@@ -138,10 +192,24 @@ fn hex_digit(n: u8) -> u8
     requires { ⌜ n < 16 ⌝ }
     ensures { λ r. ⌜ r ≡ hexDigit n ⌝ }
 {
-    if n < 10 {
-        return 48 + n;
+    match n {
+        0 => b'0',
+        1 => b'1',
+        2 => b'2',
+        3 => b'3',
+        4 => b'4',
+        5 => b'5',
+        6 => b'6',
+        7 => b'7',
+        8 => b'8',
+        9 => b'9',
+        10 => b'A',
+        11 => b'B',
+        12 => b'C',
+        13 => b'D',
+        14 => b'E',
+        _ => b'F',
     }
-    55 + n
 }
 
 fn put_hex2(text: &mut [u8], at: usize, byte: u8) -> usize
@@ -193,11 +261,21 @@ fn write_line(text: &mut [u8], at: usize, n: u32, line: Request) -> usize
     put_end(text, tab, byte)
 }
 
+// Whether the line of cycle n has room at a place: 25 bytes are enough for any, so that its width is seldom asked.
+fn line_has_room(len: usize, at: usize, n: u32) -> bool
+    ensures { λ r. ⌜ r ≡ leb (at + (15 + length (decimal n))) len ⌝ }
+{
+    if has_room(len, at, 25) {
+        return true;
+    }
+    has_room(len, at, 15 + width(n))
+}
+
 // The line of cycle n at a place of the text, and the place after it; without room the text stays, and the place is `at`.
 pub fn put_line(text: &mut [u8], at: usize, n: u32, line: Request) -> usize
     ensures { λ r. ⌜ Put (now (text .entry)) (now (text .exit)) at r (lineText n line) ⌝ }
 {
-    if has_room(text.len(), at, 15 + width(n)) {
+    if line_has_room(text.len(), at, n) {
         return write_line(text, at, n, line);
     }
     at
