@@ -19,6 +19,10 @@ abbrev pub places : ℕ → ℕ → List ℕ
 places zero n = (48 + n % 10) ∷ []
 places (suc k) n = digitAt (tens (suc k)) n ++ places k n
 
+-- a number below 100, where 0 has no digit
+unfoldable pub frontOf : ℕ → List ℕ
+frontOf n = digitAt 10 n ++ digitAt 1 n
+
 -- the first four decimal digits of a fraction of 2 to the 32nd, each of what the one before leaves
 unfoldable pub fourOf : ℕ → List ℕ
 fourOf f =

@@ -5,7 +5,7 @@ ghost use Prim.Native.Nat.{_+_, _≤_, _<_};
 ghost use lib.Dec.{leb};
 ghost use lib.ListN.{length};
 ghost use Rattle.trace.specs.Text.{decimal, hexDigit, hex2, hex6, letter, direction, lineText, header, Put, Wrote};
-ghost use Rattle.trace.specs.Places.{digitAt, fourOf};
+ghost use Rattle.trace.specs.Places.{digitAt, frontOf, fourOf};
 use cpu::types::Kind;
 use cpu::types::Request;
 
@@ -105,18 +105,21 @@ fn put_weights(text: &mut [u8], at: usize, n: u32) -> usize
     p + 1
 }
 
-// A number below 100: all but the last four digits of a number below a million.
+// What stands before the last four digits of a number below a million: two digits, one, or none for 0.
 fn put_front(text: &mut [u8], at: usize, n: u32) -> usize
-    requires { ⌜ (n < 100) × (at + length (decimal n) ≤ length (now text)) ⌝ }
-    ensures { λ r. ⌜ Wrote (now (text .entry)) (now (text .exit)) at r (decimal n) ⌝ }
+    requires { ⌜ (n < 100) × (at + length (frontOf n) ≤ length (now text)) ⌝ }
+    ensures { λ r. ⌜ Wrote (now (text .entry)) (now (text .exit)) at r (frontOf n) ⌝ }
 {
-    if n < 10 {
+    if 10 <= n {
+        text[at] = (48 + n / 10) as u8;
+        text[at + 1] = (48 + n % 10) as u8;
+        return at + 2;
+    }
+    if 1 <= n {
         text[at] = (48 + n) as u8;
         return at + 1;
     }
-    text[at] = (48 + n / 10) as u8;
-    text[at + 1] = (48 + n % 10) as u8;
-    at + 2
+    at
 }
 
 // Four digits of a fraction of 2 to the 32nd. Ten times a fraction of 2w is five times it as one of w, so each digit is a sum and a shift.
@@ -135,9 +138,9 @@ fn put_four(text: &mut [u8], at: usize, part: u64) -> usize
     at + 4
 }
 
-// Five or six digits: the number over 10,000 as a binary fraction, 429,497 being 2 to the 32nd over 10,000, rounded up.
+// Four to six digits: the number over 10,000 as a binary fraction, 429,497 being 2 to the 32nd over 10,000, rounded up.
 fn put_scaled(text: &mut [u8], at: usize, n: u32) -> usize
-    requires { ⌜ (10000 ≤ n) × (n < 1000000) × (at + length (decimal n) ≤ length (now text)) ⌝ }
+    requires { ⌜ (1000 ≤ n) × (n < 1000000) × (at + length (decimal n) ≤ length (now text)) ⌝ }
     ensures { λ r. ⌜ Wrote (now (text .entry)) (now (text .exit)) at r (decimal n) ⌝ }
 {
     let scaled = n as u64 * 429497;
@@ -145,12 +148,12 @@ fn put_scaled(text: &mut [u8], at: usize, n: u32) -> usize
     put_four(text, p, scaled % 4294967296)
 }
 
-// Nearly all lines of a long trace have a number of five or six digits.
+// Nearly all lines of a long trace have a number of four to six digits.
 fn put_decimal(text: &mut [u8], at: usize, n: u32) -> usize
     requires { ⌜ at + length (decimal n) ≤ length (now text) ⌝ }
     ensures { λ r. ⌜ Wrote (now (text .entry)) (now (text .exit)) at r (decimal n) ⌝ }
 {
-    if 10000 <= n {
+    if 1000 <= n {
         if n < 1000000 {
             return put_scaled(text, at, n);
         }
