@@ -19,6 +19,13 @@ abbrev pub places : ℕ → ℕ → List ℕ
 places zero n = (48 + n % 10) ∷ []
 places (suc k) n = digitAt (tens (suc k)) n ++ places k n
 
+-- the ten weights of a number of 32 bits, in two halves
+unfoldable pub upperOf : ℕ → List ℕ
+upperOf n = digitAt 1000000000 n ++ (digitAt 100000000 n ++ (digitAt 10000000 n ++ (digitAt 1000000 n ++ digitAt 100000 n)))
+
+unfoldable pub lowerOf : ℕ → List ℕ
+lowerOf n = digitAt 10000 n ++ (digitAt 1000 n ++ (digitAt 100 n ++ (digitAt 10 n ++ ((48 + n % 10) ∷ []))))
+
 -- a number below 100, where 0 has no digit
 unfoldable pub frontOf : ℕ → List ℕ
 frontOf n = digitAt 10 n ++ digitAt 1 n

@@ -5,7 +5,7 @@ ghost use Prim.Native.Nat.{_+_, _≤_, _<_};
 ghost use lib.Dec.{leb};
 ghost use lib.ListN.{length};
 ghost use Rattle.trace.specs.Text.{decimal, hexDigit, hex2, hex6, letter, direction, lineText, header, Put, Wrote};
-ghost use Rattle.trace.specs.Places.{digitAt, frontOf, fourOf};
+ghost use Rattle.trace.specs.Places.{digitAt, upperOf, lowerOf, frontOf, fourOf};
 use cpu::types::Kind;
 use cpu::types::Request;
 
@@ -87,17 +87,23 @@ fn put_digit(text: &mut [u8], at: usize, n: u32, w: u32) -> usize
     at + 1
 }
 
-// Any number, weight by weight.
-fn put_weights(text: &mut [u8], at: usize, n: u32) -> usize
-    requires { ⌜ at + length (decimal n) ≤ length (now text) ⌝ }
-    ensures { λ r. ⌜ Wrote (now (text .entry)) (now (text .exit)) at r (decimal n) ⌝ }
+// Any number weight by weight, in two halves.
+fn put_upper(text: &mut [u8], at: usize, n: u32) -> usize
+    requires { ⌜ at + length (upperOf n) ≤ length (now text) ⌝ }
+    ensures { λ r. ⌜ Wrote (now (text .entry)) (now (text .exit)) at r (upperOf n) ⌝ }
 {
     let p = put_digit(text, at, n, 1000000000);
     let p = put_digit(text, p, n, 100000000);
     let p = put_digit(text, p, n, 10000000);
     let p = put_digit(text, p, n, 1000000);
-    let p = put_digit(text, p, n, 100000);
-    let p = put_digit(text, p, n, 10000);
+    put_digit(text, p, n, 100000)
+}
+
+fn put_lower(text: &mut [u8], at: usize, n: u32) -> usize
+    requires { ⌜ at + length (lowerOf n) ≤ length (now text) ⌝ }
+    ensures { λ r. ⌜ Wrote (now (text .entry)) (now (text .exit)) at r (lowerOf n) ⌝ }
+{
+    let p = put_digit(text, at, n, 10000);
     let p = put_digit(text, p, n, 1000);
     let p = put_digit(text, p, n, 100);
     let p = put_digit(text, p, n, 10);
@@ -158,7 +164,8 @@ fn put_decimal(text: &mut [u8], at: usize, n: u32) -> usize
             return put_scaled(text, at, n);
         }
     }
-    put_weights(text, at, n)
+    let p = put_upper(text, at, n);
+    put_lower(text, p, n)
 }
 
 fn letter_of(kind: Kind) -> u8
