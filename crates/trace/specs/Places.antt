@@ -1,5 +1,5 @@
--- A decimal number by the weights of its digits: what the code writes, one weight after the other.
--- That this is `decimal` is a law, `decimal-places`.
+-- A decimal number as the code writes it: by the weights of its digits, one after the other, or by a binary fraction.
+-- That these are `decimal` are two laws, `decimal-weights` and `decimal-scaled`.
 use Prim.Native.Nat.{ℕ, zero, suc, _+_, _*_, _/_, _%_}
 use mathlib.Core.List.{List, [], _∷_, _++_}
 use lib.Dec.{ltb}

@@ -198,6 +198,7 @@ fn put_marks(text: &mut [u8], at: usize, kind: u8, dir: u8) -> usize
     at + 5
 }
 
+// By a match, which becomes a table: a test for each of a line's eight digits costs more.
 fn hex_digit(n: u8) -> u8
     requires { ⌜ n < 16 ⌝ }
     ensures { λ r. ⌜ r ≡ hexDigit n ⌝ }
