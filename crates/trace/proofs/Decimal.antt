@@ -9,7 +9,7 @@ use borrow.Author.Tests.{lt-ltb, le-ltb}
 use lib.Dec.{ltb}
 use lib.ListN.{length, length-append}
 use Rattle.trace.specs.Text.{digitsOf, decimal}
-use Rattle.trace.specs.Places.{digitAt, tens, places}
+use Rattle.trace.specs.Places.{digitAt, tens, places, upperOf, lowerOf}
 
 pub lt-or-ge : (a b : ℕ) → (a < b) ⊎ (b ≤ a)
 lt-or-ge a zero = inr zero-le
@@ -46,6 +46,9 @@ decimal-one n h = digits-one n n h
 pub decimal-more : (n : ℕ) → 10 ≤ n → decimal n ≡ decimal (n / 10) ++ ((48 + n % 10) ∷ [])
 unfolding decimal
 decimal-more n h = digits-more n n h ∙ ap (λ (x : List ℕ). x ++ ((48 + n % 10) ∷ [])) (digits-fuel n (suc (n / 10)) (n / 10) (omega arith) (omega arith))
+
+pub decimal-two : (n : ℕ) → 10 ≤ n → n < 100 → decimal n ≡ (48 + n / 10) ∷ (48 + n % 10) ∷ []
+decimal-two n h k = decimal-more n h ∙ rw (decimal-one (n / 10) (omega arith))
 
 -- ---- how many
 
@@ -123,16 +126,21 @@ decimal-places (suc k) n h =
     (λ p. decimal-more n p ∙ rw (decimal-places k (n / 10) (omega arith)) (sym (places-more k n p)))
     (lt-or-ge n 10)
 
--- a number of 32 bits, and how many digits that makes
-pub decimal-weights : (n : ℕ) → n < 10000000000 → decimal n ≡
-    digitAt 1000000000 n ++ (digitAt 100000000 n ++ (digitAt 10000000 n
-    ++ (digitAt 1000000 n ++ (digitAt 100000 n ++ (digitAt 10000 n
-    ++ (digitAt 1000 n ++ (digitAt 100 n ++ (digitAt 10 n
-    ++ ((48 + n % 10) ∷ [])))))))))
-decimal-weights n h = decimal-places 9 n h
+-- a number of 32 bits in its two halves, and how many digits each has
+pub decimal-weights : (n : ℕ) → n < 10000000000 → decimal n ≡ upperOf n ++ lowerOf n
+unfolding upperOf lowerOf
+decimal-weights n h = decimal-places 9 n h ∙ simp append-assoc
 
-pub weights-length : (n : ℕ) → n < 10000000000 → length (decimal n) ≡
+pub upper-length : (n : ℕ) → length (upperOf n) ≡
     length (digitAt 1000000000 n) + (length (digitAt 100000000 n) + (length (digitAt 10000000 n)
-    + (length (digitAt 1000000 n) + (length (digitAt 100000 n) + (length (digitAt 10000 n)
-    + (length (digitAt 1000 n) + (length (digitAt 100 n) + (length (digitAt 10 n) + 1))))))))
-weights-length n h = rw (decimal-weights n h) (simp length-append)
+    + (length (digitAt 1000000 n) + length (digitAt 100000 n))))
+unfolding upperOf
+upper-length n = simp length-append
+
+pub lower-length : (n : ℕ) → length (lowerOf n) ≡
+    length (digitAt 10000 n) + (length (digitAt 1000 n) + (length (digitAt 100 n) + (length (digitAt 10 n) + 1)))
+unfolding lowerOf
+lower-length n = simp length-append
+
+pub weights-length : (n : ℕ) → n < 10000000000 → length (decimal n) ≡ length (upperOf n) + length (lowerOf n)
+weights-length n h = rw (decimal-weights n h) (length-append (upperOf n) (lowerOf n))

@@ -7,7 +7,7 @@ use mathlib.Core.Logic.{⊎-elim}
 use native.Mathlib.Omega.{arith}
 use native.Mathlib.Nat.{add-zero, zero-add}
 use native.Mathlib.Numerals.{add-one}
-use borrow.Author.Tests.{le-leb, lt-leb}
+use borrow.Author.Tests.{le-leb, lt-leb, leb-true}
 use lib.Dec.{leb}
 use lib.ListN.{length, set, take, drop, getD, length-append}
 use lib.Seq.{sets, sets-eq, length-sets, take-suc, take-length, take-append-seam}
@@ -104,6 +104,10 @@ room-some len at size h =
     (λ p. lt-leb at (len - size) p ∙ sym (lt-leb (at + size) len (omega arith)))
     (λ p. le-leb at (len - size) p ∙ sym (le-leb (at + size) len (omega arith)))
     (lt-or-ge (len - size) at)
+
+-- 25 bytes are enough for a line of any number of 32 bits
+pub room-any : (len at n : ℕ) → n < 10000000000 → leb (at + 25) len ≡ true → true ≡ leb (at + (15 + length (decimal n))) len
+room-any len at n h k = sym (le-leb (at + (15 + length (decimal n))) len (omega (arith, leb-true (at + 25) len k, decimal-short 9 n h)))
 
 pub put-fits : {t t′ x : List ℕ} {i j : ℕ} → i + length x ≤ length t → Put t t′ i j x → Wrote t t′ i j x
 put-fits h p = record { place = p .place ∙ rw (le-leb _ _ h); text = p .text ∙ rw (le-leb _ _ h) }

@@ -5,7 +5,7 @@ ghost use Prim.Native.Nat.{_+_, _≤_, _<_};
 ghost use lib.Dec.{leb};
 ghost use lib.ListN.{length};
 ghost use Rattle.trace.specs.Text.{decimal, hexDigit, hex2, hex6, letter, direction, lineText, header, Put, Wrote};
-ghost use Rattle.trace.specs.Places.{digitAt};
+ghost use Rattle.trace.specs.Places.{digitAt, upperOf, lowerOf, frontOf, fourOf};
 use cpu::types::Kind;
 use cpu::types::Request;
 
@@ -87,21 +87,85 @@ fn put_digit(text: &mut [u8], at: usize, n: u32, w: u32) -> usize
     at + 1
 }
 
-fn put_decimal(text: &mut [u8], at: usize, n: u32) -> usize
-    requires { ⌜ at + length (decimal n) ≤ length (now text) ⌝ }
-    ensures { λ r. ⌜ Wrote (now (text .entry)) (now (text .exit)) at r (decimal n) ⌝ }
+// Any number weight by weight, in two halves.
+fn put_upper(text: &mut [u8], at: usize, n: u32) -> usize
+    requires { ⌜ at + length (upperOf n) ≤ length (now text) ⌝ }
+    ensures { λ r. ⌜ Wrote (now (text .entry)) (now (text .exit)) at r (upperOf n) ⌝ }
 {
     let p = put_digit(text, at, n, 1000000000);
     let p = put_digit(text, p, n, 100000000);
     let p = put_digit(text, p, n, 10000000);
     let p = put_digit(text, p, n, 1000000);
-    let p = put_digit(text, p, n, 100000);
-    let p = put_digit(text, p, n, 10000);
+    put_digit(text, p, n, 100000)
+}
+
+fn put_lower(text: &mut [u8], at: usize, n: u32) -> usize
+    requires { ⌜ at + length (lowerOf n) ≤ length (now text) ⌝ }
+    ensures { λ r. ⌜ Wrote (now (text .entry)) (now (text .exit)) at r (lowerOf n) ⌝ }
+{
+    let p = put_digit(text, at, n, 10000);
     let p = put_digit(text, p, n, 1000);
     let p = put_digit(text, p, n, 100);
     let p = put_digit(text, p, n, 10);
     text[p] = (48 + n % 10) as u8;
     p + 1
+}
+
+// What stands before the last four digits of a number below a million: two digits, one, or none for 0.
+fn put_front(text: &mut [u8], at: usize, n: u32) -> usize
+    requires { ⌜ (n < 100) × (at + length (frontOf n) ≤ length (now text)) ⌝ }
+    ensures { λ r. ⌜ Wrote (now (text .entry)) (now (text .exit)) at r (frontOf n) ⌝ }
+{
+    if 10 <= n {
+        text[at] = (48 + n / 10) as u8;
+        text[at + 1] = (48 + n % 10) as u8;
+        return at + 2;
+    }
+    if 1 <= n {
+        text[at] = (48 + n) as u8;
+        return at + 1;
+    }
+    at
+}
+
+// Four digits of a fraction of 2 to the 32nd. Ten times a fraction of 2w is five times it as one of w, so each digit is a sum and a shift.
+fn put_four(text: &mut [u8], at: usize, part: u64) -> usize
+    requires { ⌜ (part < 4294967296) × (at + 4 ≤ length (now text)) ⌝ }
+    ensures { λ r. ⌜ Wrote (now (text .entry)) (now (text .exit)) at r (fourOf part) ⌝ }
+{
+    let a = part * 5;
+    text[at] = (48 + a / 2147483648) as u8;
+    let b = a % 2147483648 * 5;
+    text[at + 1] = (48 + b / 1073741824) as u8;
+    let c = b % 1073741824 * 5;
+    text[at + 2] = (48 + c / 536870912) as u8;
+    let d = c % 536870912 * 5;
+    text[at + 3] = (48 + d / 268435456) as u8;
+    at + 4
+}
+
+// Four to six digits: the number over 10,000 as a binary fraction, 429,497 being 2 to the 32nd over 10,000, rounded up.
+fn put_scaled(text: &mut [u8], at: usize, n: u32) -> usize
+    requires { ⌜ (1000 ≤ n) × (n < 1000000) × (at + length (decimal n) ≤ length (now text)) ⌝ }
+    ensures { λ r. ⌜ Wrote (now (text .entry)) (now (text .exit)) at r (decimal n) ⌝ }
+{
+    let scaled = n as u64 * 429497;
+    let p = put_front(text, at, (scaled / 4294967296) as u32);
+    put_four(text, p, scaled % 4294967296)
+}
+
+// Nearly all lines of a long trace have a number of four to six digits.
+fn put_decimal(text: &mut [u8], at: usize, n: u32) -> usize
+    requires { ⌜ at + length (decimal n) ≤ length (now text) ⌝ }
+    ensures { λ r. ⌜ Wrote (now (text .entry)) (now (text .exit)) at r (decimal n) ⌝ }
+{
+    if 1000 <= n {
+        if n < 1000000 {
+            return put_scaled(text, at, n);
+        }
+    }
+    let p = put_upper(text, at, n);
+    put_lower(text, p, n)
 }
 
 fn letter_of(kind: Kind) -> u8
@@ -134,14 +198,29 @@ fn put_marks(text: &mut [u8], at: usize, kind: u8, dir: u8) -> usize
     at + 5
 }
 
+// By a match, which becomes a table: a test for each of a line's eight digits costs more.
 fn hex_digit(n: u8) -> u8
     requires { ⌜ n < 16 ⌝ }
     ensures { λ r. ⌜ r ≡ hexDigit n ⌝ }
 {
-    if n < 10 {
-        return 48 + n;
+    match n {
+        0 => b'0',
+        1 => b'1',
+        2 => b'2',
+        3 => b'3',
+        4 => b'4',
+        5 => b'5',
+        6 => b'6',
+        7 => b'7',
+        8 => b'8',
+        9 => b'9',
+        10 => b'A',
+        11 => b'B',
+        12 => b'C',
+        13 => b'D',
+        14 => b'E',
+        _ => b'F',
     }
-    55 + n
 }
 
 fn put_hex2(text: &mut [u8], at: usize, byte: u8) -> usize
@@ -193,11 +272,21 @@ fn write_line(text: &mut [u8], at: usize, n: u32, line: Request) -> usize
     put_end(text, tab, byte)
 }
 
+// Whether the line of cycle n has room at a place: 25 bytes are enough for any, so that its width is seldom asked.
+fn line_has_room(len: usize, at: usize, n: u32) -> bool
+    ensures { λ r. ⌜ r ≡ leb (at + (15 + length (decimal n))) len ⌝ }
+{
+    if has_room(len, at, 25) {
+        return true;
+    }
+    has_room(len, at, 15 + width(n))
+}
+
 // The line of cycle n at a place of the text, and the place after it; without room the text stays, and the place is `at`.
 pub fn put_line(text: &mut [u8], at: usize, n: u32, line: Request) -> usize
     ensures { λ r. ⌜ Put (now (text .entry)) (now (text .exit)) at r (lineText n line) ⌝ }
 {
-    if has_room(text.len(), at, 15 + width(n)) {
+    if line_has_room(text.len(), at, n) {
         return write_line(text, at, n, line);
     }
     at

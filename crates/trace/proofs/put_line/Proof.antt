@@ -2,26 +2,19 @@ use borrow.Author.Needs.{needs}
 use native.Mathlib.Omega.{arith}
 use mathlib.Core.Path.{sym, _∙_}
 use borrow.Author.Tests.{leb-true, leb-false}
-use Rattle.trace.proofs.Decimal.{decimal-short}
 use Rattle.trace.proofs.Laws.{line-length, wrote-put, full-put}
 use Rattle.trace.proofs.put_line.Statement.{statement}
 use Rattle.trace.proofs.put_line.Tie as tie
 
-width-requires : tie.Need-width-requires
-width-requires c κs = search needs
-
-add-has-room : tie.Need-add-has-room
-add-has-room c = omega (arith, c .width .ensures, decimal-short 9 (c .before .before .args .n) (omega arith))
-
-has-room-requires : tie.Need-has-room-requires
-has-room-requires c κs = search needs
+line-has-room-requires : tie.Need-line-has-room-requires
+line-has-room-requires c κs = search needs
 
 write-line-requires : tie.Need-write-line-requires
 write-line-requires c κs =
     let r = c .before .before in
-    let s = r .before .before .before in
-    let t = sym (r .has-room .ensures) ∙ c .before .if1 .taken in
-    omega (arith, leb-true, r .before .width .ensures, line-length (s .args .n) (s .args .line))
+    let s = r .before .before in
+    let t = sym (r .line-has-room .ensures) ∙ c .before .if1 .taken in
+    omega (arith, leb-true, line-length (s .args .n) (s .args .line))
 
 same-length : tie.Need-same-length
 same-length c = search needs
@@ -30,24 +23,22 @@ returns : tie.Need-returns
 returns c =
     let w = c .before .before in
     let r = w .before .before .before in
-    let s = r .before .before .before in
-    let t = sym (r .has-room .ensures) ∙ w .before .before .if1 .taken in
-    wrote-put (omega (arith, leb-true, r .before .width .ensures, line-length (s .args .n) (s .args .line))) (w .write-line .ensures)
+    let s = r .before .before in
+    let t = sym (r .line-has-room .ensures) ∙ w .before .before .if1 .taken in
+    wrote-put (omega (arith, leb-true, line-length (s .args .n) (s .args .line))) (w .write-line .ensures)
 
 returns-2 : tie.Need-returns-2
 returns-2 c =
     let r = c .before in
-    let s = r .before .before .before in
-    let t = sym (r .has-room .ensures) ∙ c .if1 .left in
-    full-put (omega (arith, leb-false, r .before .width .ensures, line-length (s .args .n) (s .args .line)))
+    let s = r .before .before in
+    let t = sym (r .line-has-room .ensures) ∙ c .if1 .left in
+    full-put (omega (arith, leb-false, line-length (s .args .n) (s .args .line)))
 
 pub put-line-spec : {M : Type 1} → statement M
 put-line-spec =
     tie.close
     (tie.spec
-    width-requires
-    add-has-room
-    has-room-requires
+    line-has-room-requires
     write-line-requires
     same-length
     returns
