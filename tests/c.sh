@@ -6,6 +6,13 @@ if ! command -v cc >/dev/null; then
     echo "c: not run: there is no cc"
     exit 0
 fi
+case $(cc -dumpmachine) in
+x86_64*) ;;
+*)
+    echo "c: not run: the library is for x86-64, and cc here is for $(cc -dumpmachine)"
+    exit 0
+    ;;
+esac
 out=target/c
 mkdir -p $out
 library/build.sh >$out/say 2>&1 || { cat $out/say; exit 1; }

@@ -6,6 +6,8 @@ cd "$(dirname "$0")/.."
 source=${W65C816:-../shared/docs/src/src}
 if ! command -v rustc >/dev/null; then
     echo "judge: not run: there is no rustc"
+elif ! rustc -vV | grep -q '^host: x86_64'; then
+    echo "judge: not run: the library is for x86-64, and rustc here is for $(rustc -vV | sed -n 's/^host: //p')"
 elif [ ! -f "$source/lib.rs" ]; then
     echo "judge: not run: the source of w65c816 0.1.17 isn't at $source"
 else

@@ -2,10 +2,9 @@
 # Replays wrong lists, and lists at the format's edges, and compares each report byte for byte. Run it after `rt check replay`.
 set -u
 cd "$(dirname "$0")/.." || exit 2
-replay=target/bin/replay
 list=crates/replay/data/list.txt
-if [ ! -x "$replay" ]; then
-  echo "replay: $replay is missing: run 'rt check replay' first"
+if [ ! -x target/bin/replay ]; then
+  echo "replay: target/bin/replay is missing: run 'rt check replay' first"
   exit 2
 fi
 work=$(mktemp -d) || exit 2
@@ -22,7 +21,7 @@ told() {
   name=$1
   expected=$2
   shift 2
-  "$replay" "$@" >"$work/out" 2>"$work/err" || fail "$name: the program failed"
+  tools/start replay "$@" >"$work/out" 2>"$work/err" || fail "$name: the program failed"
   cmp -s "$expected" "$work/out" || fail "$name: not the report expected: $(diff "$expected" "$work/out" | head -n 5)"
   passed=$((passed + 1))
 }

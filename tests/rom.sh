@@ -3,7 +3,6 @@
 # missing. Spoiled copies have to be found out. Then the farmyard day's digit on descriptor 3: run it after `rt check farmyard`.
 set -u
 cd "$(dirname "$0")/.." || exit 2
-farmyard=target/bin/farmyard
 work=$(mktemp -d) || exit 2
 trap 'rm -rf "$work"' EXIT
 passed=0
@@ -78,11 +77,11 @@ spoiled 'another mnemonic in the source' '' 's/ADC #0001/ADC #0010/'
 spoiled 'the same wrong address in both' 's/^8050/8051/' 's/8050 LDY/8051 LDY/'
 spoiled 'the same byte less in both' 's/^8002  C2 30/8002  C2   /' '/^    0x30,$/d'
 
-if [ ! -x "$farmyard" ]; then
-  echo "rom: $farmyard is missing: run 'rt check farmyard' first"
+if [ ! -x target/bin/farmyard ]; then
+  echo "rom: target/bin/farmyard is missing: run 'rt check farmyard' first"
   exit 2
 fi
-"$farmyard" >"$work/out" 3>"$work/digit" || fail 'the program failed'
+tools/start farmyard >"$work/out" 3>"$work/digit" || fail 'the program failed'
 cmp -s crates/farmyard/stdout "$work/out" || fail 'not the day expected'
 [ "$(cat "$work/digit")" = 0 ] || fail 'descriptor 3 has no 0'
 passed=$((passed + 1))

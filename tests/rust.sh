@@ -6,6 +6,14 @@ if ! command -v cargo >/dev/null; then
     echo "rust: not run: there is no cargo"
     exit 0
 fi
+host=$(rustc -vV | sed -n 's/^host: //p')
+case $host in
+x86_64*) ;;
+*)
+    echo "rust: not run: the library is for x86-64, and rustc here is for $host"
+    exit 0
+    ;;
+esac
 out=target/rust
 mkdir -p $out
 library/build.sh >$out/say 2>&1 || { cat $out/say; exit 1; }

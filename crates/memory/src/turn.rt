@@ -2,18 +2,26 @@
 ghost use mathlib.Core.Path.{_≡_};
 ghost use Prim.Native.Nat.{_<_};
 ghost use lib.ListN.{length};
-ghost use Rattle.step.specs.Cycle.{answeredBy};
-ghost use Rattle.memory.specs.Turns.{answered, busByte, crossed, refusalOf, storeLine, stoppedBy, storeOf, turnBy};
+ghost use Rattle.cycles.specs.declared.types.Micro.the-variants.{Fetch, Held};
+ghost use Rattle.memory.specs.Turns.{busByte, crossed, refusalOf, storeLine, stoppedBy, storeOf, turnBy};
 use crate::types::Turn;
+use act::arrive::act;
+use bus::ask;
+use bus::code;
+use bus::read;
 use cpu::record::number;
 use cpu::types::Answer;
-use cpu::types::Asked;
+use cpu::types::Kind;
 use cpu::types::Record;
 use cpu::types::Refusal;
 use cpu::types::Request;
+use cycles::types::Ask;
+use cycles::types::Change;
 use cycles::types::Micro;
-use step::answer_at;
-use step::request_at;
+use cycles::types::Move;
+use cycles::types::To;
+use opcodes::types::Operation;
+use step::begin;
 
 // The byte that goes over the bus.
 fn bus_byte(q: Request, mem: &[u8]) -> u8
@@ -58,16 +66,32 @@ fn store(l: Request, mem: &mut [u8])
     }
 }
 
-// A request inside the memory.
-fn over(q: Request, m: Micro, r: Record, mem: &mut [u8]) -> Turn
-    requires { ⌜ q .addr < length (now mem) ⌝ }
-    ensures { λ t. ⌜ (t ≡ answered (crossed q (busByte q (now (mem .entry)))) (answeredBy m r (busByte q (now (mem .entry))))) × (now (mem .exit) ≡ storeOf t (now (mem .entry))) ⌝ }
+// The cycle that fetches an opcode.
+fn fetch(r: Record, mem: &[u8]) -> Turn
+    ensures { λ t. ⌜ t ≡ turnBy Fetch r (now (mem .entry)) ⌝ }
 {
-    let l = line(q, bus_byte(q, mem));
-    let answer = answer_at(r, m, l.byte);
+    let p = code(r);
+    if mem.len() <= p as usize {
+        return Turn::Stop(Refusal::Bank);
+    }
+    let byte = mem[p as usize];
+    let answer = begin(r, byte);
     let Answer::Next(next) = answer else {
         return Turn::Stop(refusal(answer));
     };
+    Turn::Done(line(read(Kind::Opcode, p), byte), next)
+}
+
+// The cycle of a held opcode. What it does is handed over in its parts, which the compiler then keeps apart.
+fn carry_out(q: Ask, k: Move, c: Change, d: To, o: Operation, r: Record, mem: &mut [u8]) -> Turn
+    ensures { λ t. ⌜ (t ≡ turnBy (Held q k c d o) r (now (mem .entry))) × (now (mem .exit) ≡ storeOf t (now (mem .entry))) ⌝ }
+{
+    let asked = ask(q, o, r);
+    if mem.len() <= asked.addr as usize {
+        return Turn::Stop(Refusal::Bank);
+    }
+    let l = line(asked, bus_byte(asked, mem));
+    let next = act(k, c, d, o, r, l.byte);
     store(l, mem);
     Turn::Done(l, next)
 }
@@ -76,15 +100,10 @@ fn over(q: Request, m: Micro, r: Record, mem: &mut [u8]) -> Turn
 pub fn turn(m: Micro, r: Record, mem: &mut [u8]) -> Turn
     ensures { λ t. ⌜ (t ≡ turnBy m r (now (mem .entry))) × (now (mem .exit) ≡ storeOf t (now (mem .entry))) ⌝ }
 {
-    let asked = request_at(r, m);
-    match asked {
-        Asked::No(n) => Turn::Stop(n),
-        Asked::Ask(q) => {
-            if mem.len() <= q.addr as usize {
-                return Turn::Stop(Refusal::Bank);
-            }
-            over(q, m, r, mem)
-        }
+    match m {
+        Micro::Refuse(n) => Turn::Stop(n),
+        Micro::Fetch => fetch(r, mem),
+        Micro::Held(q, k, c, d, o) => carry_out(q, k, c, d, o, r, mem),
     }
 }
 

@@ -48,7 +48,7 @@ pub fn next_micro(r: Record) -> Micro
 }
 
 // The opcode's byte: the first cycle of its instruction comes next, or refusal 5.
-fn begin(r: Record, b: u8) -> Answer
+pub fn begin(r: Record, b: u8) -> Answer
     ensures { λ n. ⌜ n ≡ begun (decodeOf b) r b ⌝ }
 {
     let known = listed(b);
