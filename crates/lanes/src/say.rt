@@ -70,8 +70,17 @@ pub fn say_refusal(n: Refusal) {
 }
 
 // What the constant tables say of an opcode: a branch's count is that of one that isn't taken.
-pub fn say_table(byte: u8, f: Flags, d: u16) {
+fn say_table(byte: u8, f: Flags, d: u16) {
     say_number(b"  table: cycles ", cycle_count(byte, f, d) as u64);
     say_number(b" bytes ", length_of(byte, f) as u64);
     say(b"\n");
+}
+
+// A figure's name, and what the tables say of its first byte.
+pub fn say_head(name: &[u8], bytes: &[u8], f: Flags, d: u16) {
+    say(name);
+    say(b"\n");
+    if bytes.len() > 0 {
+        say_table(bytes[0], f, d);
+    }
 }

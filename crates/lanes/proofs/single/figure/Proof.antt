@@ -11,14 +11,8 @@ Inv-loop name bytes at₀ n₀ at n = Unit {0}
 abbrev μ-loop : tie.MeasureT-loop
 μ-loop name bytes at₀ n₀ at n = length bytes - n
 
-say-requires : tie.Need-say-requires Inv-loop μ-loop
-say-requires c κs = search needs
-
-slice-aggregate-say : tie.Need-slice-aggregate-say Inv-loop μ-loop
-slice-aggregate-say c = search needs
-
-say-requires-2 : tie.Need-say-requires-2 Inv-loop μ-loop
-say-requires-2 c κs = search needs
+say-head-requires : tie.Need-say-head-requires Inv-loop μ-loop
+say-head-requires c κs = search needs
 
 loop-holds : tie.Need-loop-holds Inv-loop μ-loop
 loop-holds c = tt
@@ -71,9 +65,7 @@ figure-spec =
     (tie.spec
     Inv-loop
     μ-loop
-    say-requires
-    slice-aggregate-say
-    say-requires-2
+    say-head-requires
     loop-holds
     cast-cycle
     add-cycle
