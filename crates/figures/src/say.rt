@@ -1,7 +1,7 @@
 // What the figures are printed with.
 use cpu::record::number;
+use cpu::types::Answer;
 use cpu::types::Record;
-use cpu::types::Refusal;
 use flags::Flags;
 use libc::STDOUT_FILENO;
 use tables::count::cycle_count;
@@ -64,9 +64,15 @@ pub fn say_record(r: Record, cycles: usize) {
     say_held(r.held);
 }
 
-pub fn say_refusal(n: Refusal) {
-    say_number(b"  refused: ", number(n) as u64);
-    say(b"\n");
+// The refusal that ended a figure.
+pub fn say_stop(a: Answer) {
+    match a {
+        Answer::Next(_) => (),
+        Answer::Refused(n) => {
+            say_number(b"  refused: ", number(n) as u64);
+            say(b"\n");
+        }
+    }
 }
 
 // What the constant tables say of an opcode: a branch's count is that of one that isn't taken.
