@@ -1,8 +1,7 @@
 // A trace and a bench session over a lent memory.
 use crate::say::say;
 use crate::say::say_end;
-use crate::say::say_number;
-use crate::say::say_word;
+use crate::say::say_step;
 use cpu::types::Record;
 use session::session::answered;
 use session::session::cycled;
@@ -15,35 +14,31 @@ fn start(p: u8) -> Record {
     packed::bytes::start(0, 0, 0, 0x01FF, 0, 0x8000, 0, 0, p, false)
 }
 
-// CLC, ADC #01, budget 4.
-fn traced(name: &[u8], text: &mut [u8]) {
-    let mut mem = [0u8; 65536];
-    mem[0x8000] = 0x18;
-    mem[0x8001] = 0x69;
-    mem[0x8002] = 0x01;
-    let t = traced::traced::traced_run(start(0x30), &mut mem, text, 4);
+// Budget 4.
+fn traced(name: &[u8], mem: &mut [u8; 65536], text: &mut [u8]) {
+    let t = traced::traced::traced_run(start(0x30), mem, text, 4);
     say(name);
     say_end(t.refusal, t.cycles, t.after);
     say(text);
     say(b"\n");
 }
 
-// What isn't written stays as it was, dots.
+// CLC, ADC #01. What isn't written stays as it was, dots.
 pub fn traces() {
+    let mut mem = [0u8; 65536];
     let mut room = [46u8; 94];
     let mut less = [46u8; 93];
-    traced(b"budget 4, text room 94", &mut room);
-    traced(b"budget 4, text room 93", &mut less);
+    mem[0x8000] = 0x18;
+    mem[0x8001] = 0x69;
+    mem[0x8002] = 0x01;
+    traced(b"budget 4, text room 94", &mut mem, &mut room);
+    traced(b"budget 4, text room 93", &mut mem, &mut less);
 }
 
 fn stepped(name: &[u8], t: Stepped) -> Session {
     let s = t.session;
     let at = s.at;
-    say(name);
-    say_number(b"\n  number ", t.number as u64);
-    say_number(b" count ", s.cycles);
-    say_word(b" PC ", at.pc);
-    say(b"\n");
+    say_step(name, t.number, s.cycles, at.pc);
     s
 }
 

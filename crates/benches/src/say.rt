@@ -1,4 +1,4 @@
-// What the rounds are printed with.
+// What the benches are printed with.
 use cpu::types::Record;
 use libc::STDOUT_FILENO;
 
@@ -6,14 +6,21 @@ pub fn say(text: &[u8]) {
     io::write_all(STDOUT_FILENO, text);
 }
 
-pub fn say_number(name: &[u8], n: u64) {
+fn say_number(name: &[u8], n: u64) {
     say(name);
     io::print_decimal(STDOUT_FILENO, n);
 }
 
-pub fn say_word(name: &[u8], n: u16) {
+fn say_word(name: &[u8], n: u16) {
     say(name);
     io::print_hex(STDOUT_FILENO, n as u64, 4);
+}
+
+fn say_words(a: u16, x: u16, y: u16, pc: u16) {
+    say_word(b"  A ", a);
+    say_word(b" X ", x);
+    say_word(b" Y ", y);
+    say_word(b" PC ", pc);
 }
 
 // A record still under way is said to be held.
@@ -25,9 +32,15 @@ fn say_held(held: bool) {
 pub fn say_end(refusal: u8, cycles: u32, r: Record) {
     say_number(b"\n  refusal ", refusal as u64);
     say_number(b" cycles ", cycles as u64);
-    say_word(b"  A ", r.a);
-    say_word(b" X ", r.x);
-    say_word(b" Y ", r.y);
-    say_word(b" PC ", r.pc);
+    say_words(r.a, r.x, r.y, r.pc);
     say_held(r.held);
+}
+
+// What a session's cycle came to.
+pub fn say_step(name: &[u8], number: u8, count: u64, pc: u16) {
+    say(name);
+    say_number(b"\n  number ", number as u64);
+    say_number(b" count ", count);
+    say_word(b" PC ", pc);
+    say(b"\n");
 }
