@@ -22,7 +22,7 @@ told() {
   name=$1
   expected=$2
   shift 2
-  "$replay" "$@" >"$work/out" 2>"$work/err" || fail "$name: the program failed"
+  tools/start replay "$@" >"$work/out" 2>"$work/err" || fail "$name: the program failed"
   cmp -s "$expected" "$work/out" || fail "$name: not the report expected: $(diff "$expected" "$work/out" | head -n 5)"
   passed=$((passed + 1))
 }

@@ -82,7 +82,7 @@ if [ ! -x "$farmyard" ]; then
   echo "rom: $farmyard is missing: run 'rt check farmyard' first"
   exit 2
 fi
-"$farmyard" >"$work/out" 3>"$work/digit" || fail 'the program failed'
+tools/start farmyard >"$work/out" 3>"$work/digit" || fail 'the program failed'
 cmp -s crates/farmyard/stdout "$work/out" || fail 'not the day expected'
 [ "$(cat "$work/digit")" = 0 ] || fail 'descriptor 3 has no 0'
 passed=$((passed + 1))
