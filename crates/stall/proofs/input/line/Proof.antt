@@ -1,6 +1,6 @@
 use borrow.Author.Needs.{needs}
-use Rattle.byhand.proofs.input.line.Statement.{statement}
-use Rattle.byhand.proofs.input.line.Tie as tie
+use Rattle.stall.proofs.input.line.Statement.{statement}
+use Rattle.stall.proofs.input.line.Tie as tie
 
 abbrev Inv-loop : tie.InvT-loop
 Inv-loop room₀ n₀ turns₀ room n turns = Unit {0}
@@ -14,14 +14,8 @@ loop-holds c = tt
 get-requires : tie.Need-get-requires Inv-loop μ-loop
 get-requires c κs = search needs
 
-enum-told : tie.Need-enum-told Inv-loop μ-loop
-enum-told c = search needs
-
 returns : tie.Need-returns Inv-loop μ-loop
 returns c = tt
-
-enum-told-2 : tie.Need-enum-told-2 Inv-loop μ-loop
-enum-told-2 c = search needs
 
 ended-requires : tie.Need-ended-requires Inv-loop μ-loop
 ended-requires c κs = search needs
@@ -29,8 +23,8 @@ ended-requires c κs = search needs
 returns-2 : tie.Need-returns-2 Inv-loop μ-loop
 returns-2 c = tt
 
-enum-known-got : tie.Need-enum-known-got Inv-loop μ-loop
-enum-known-got c = search needs
+cast-put : tie.Need-cast-put Inv-loop μ-loop
+cast-put c = search needs
 
 put-requires : tie.Need-put-requires Inv-loop μ-loop
 put-requires c κs = search needs
@@ -58,12 +52,10 @@ line-spec =
     μ-loop
     loop-holds
     get-requires
-    enum-told
     returns
-    enum-told-2
     ended-requires
     returns-2
-    enum-known-got
+    cast-put
     put-requires
     more-requires
     sub-turns
