@@ -1,9 +1,9 @@
 #!/bin/sh
-# The command: every subcommand, refusal, complaint and status, byte for byte. Run it after `rt check tanker byhand replay`.
+# The command: every subcommand, refusal, complaint and status, byte for byte. Run it after `rt check tanker drover byhand replay`.
 set -u
 cd "$(dirname "$0")/.." || exit 2
 root=$(pwd)
-for program in tanker byhand replay; do
+for program in tanker drover byhand replay; do
   if [ ! -x "target/bin/$program" ]; then
     echo "command: target/bin/$program is missing: run 'rt check $program' first"
     exit 2
@@ -282,16 +282,19 @@ passed=$((passed + 2))
 # ---- proving on first use, by an rt that only says what the real one would
 
 new=$work/new
-mkdir -p "$new/crates" "$new/bin" "$new/tools"
+mkdir -p "$new/crates" "$new/bin" "$new/path" "$new/tools"
 : >"$new/crates.txt"
 cp "$root/glavorint" "$new/glavorint"
+# its programs are scripts, which no emulator runs
+printf '#!/bin/sh\nprogram=$1\nshift\nexec "%s/target/bin/$program" "$@"\n' "$new" >"$new/tools/start"
+chmod +x "$new/tools/start"
 for tool in sh dirname find head tail mkdir cat mv chmod; do
-  ln -s "$(command -v $tool)" "$new/tools/$tool"
+  ln -s "$(command -v $tool)" "$new/path/$tool"
 done
 
 # first NAME STATUS OUT ERR: the new repository's command on `run`, with no rt but the one in its bin/.
 first() {
-  PATH="$new/bin:$new/tools" "$new/glavorint" run >"$work/out" 2>"$work/err"
+  PATH="$new/bin:$new/path" "$new/glavorint" run >"$work/out" 2>"$work/err"
   got=$?
   [ "$got" = "$2" ] || fail "$1: status $got, not $2: $(cat "$work/err")"
   cmp -s "$3" "$work/out" || fail "$1: not the output expected: $(diff "$3" "$work/out" | head -n 5)"
@@ -332,7 +335,7 @@ first 'a second use' 1 "$work/ran" "$work/nothing"
 rm "$new/bin/rt"
 first 'a second use without the toolchain' 1 "$work/ran" "$work/nothing"
 printf '#!/bin/sh\nkill -9 $$\n' >"$new/target/bin/tanker"
-PATH="$new/bin:$new/tools" "$new/glavorint" run >"$work/out" 2>"$work/err"
+PATH="$new/bin:$new/path" "$new/glavorint" run >"$work/out" 2>"$work/err"
 [ $? = 1 ] || fail 'a program that is killed: not status 1'
 grep -q 'tanker ended without a status (its own was 137)' "$work/err" || fail "a program that is killed: $(cat "$work/err")"
 passed=$((passed + 1))

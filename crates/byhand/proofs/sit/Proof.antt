@@ -3,22 +3,16 @@ use Rattle.byhand.proofs.sit.Statement.{statement}
 use Rattle.byhand.proofs.sit.Tie as tie
 
 abbrev Inv-loop : tie.InvT-loop
-Inv-loop b₀ turns₀ b turns = Unit {0}
+Inv-loop session₀ at₀ turns₀ session at turns = Unit {0}
 
 abbrev μ-loop : tie.MeasureT-loop
-μ-loop b₀ turns₀ b turns = turns
+μ-loop session₀ at₀ turns₀ session at turns = turns
 
 loop-holds : tie.Need-loop-holds Inv-loop μ-loop
 loop-holds c = tt
 
 turn-requires : tie.Need-turn-requires Inv-loop μ-loop
 turn-requires c κs = search needs
-
-is-over-requires : tie.Need-is-over-requires Inv-loop μ-loop
-is-over-requires c κs = search needs
-
-returns : tie.Need-returns Inv-loop μ-loop
-returns c = tt
 
 sub-turns : tie.Need-sub-turns Inv-loop μ-loop
 sub-turns c = search needs
@@ -28,6 +22,9 @@ loop-less c = search needs
 
 loop-again : tie.Need-loop-again Inv-loop μ-loop
 loop-again c = tt
+
+returns : tie.Need-returns Inv-loop μ-loop
+returns c = tt
 
 returns-2 : tie.Need-returns-2 Inv-loop μ-loop
 returns-2 c = tt
@@ -40,9 +37,8 @@ sit-spec =
     μ-loop
     loop-holds
     turn-requires
-    is-over-requires
-    returns
     sub-turns
     loop-less
     loop-again
+    returns
     returns-2)
