@@ -1,7 +1,7 @@
 // The day's run: to the first move, that move's first byte with a trace, then to the end.
-use crate::rom::MOVE;
-use crate::rom::START;
-use crate::rom::STOP;
+use audit::rom::MOVE;
+use audit::rom::START;
+use audit::rom::STOP;
 use cpu::types::Record;
 use flags::Flags;
 use run::run::run;

@@ -1,31 +1,23 @@
 // A day at the farmyard: the meter's ROM counts six deliveries in decimal and moves each into the log; then slip, log, cycles, the trace of
 // the first byte moved, and the sums added again. Descriptor 3 gets 0 if all agrees, 1 if not.
-mod checks;
 mod day;
-mod entry;
-mod meter;
-mod rom;
-mod say;
-mod slip;
-mod sums;
-mod yard;
 
-use checks::check_cycles;
-use checks::check_elsewhere;
-use checks::cycles_to_move;
-use checks::lay;
+use audit::checks::check_cycles;
+use audit::checks::check_elsewhere;
+use audit::checks::cycles_to_move;
+use audit::checks::lay;
+use audit::meter::SAMPLES;
+use audit::meter::count_flow;
+use audit::sums::add_day;
+use dairy::say::say;
+use dairy::say::say_first;
+use dairy::say::say_form;
+use dairy::slip::say_log;
+use dairy::slip::say_slip;
+use dairy::yard::get;
 use day::Day;
 use day::run_day;
-use meter::SAMPLES;
-use meter::count_flow;
-use say::say;
-use say::say_first;
-use say::say_form;
-use slip::say_log;
-use slip::say_slip;
-use sums::add_day;
 use words::both;
-use yard::get;
 
 fn say_title() {
     say(b"A day at the farmyard\nEach pulse of the tanker's flow meter is a litre. A ROM for the");

@@ -1,10 +1,9 @@
 // Replays a file of single instructions, named by the argument, through `request` and `answer`: prints each line that differs and totals.
 // One case a line; crates/lines has the format, crates/course what is compared.
-mod report;
-mod tally;
-
 use lines::types::Tally;
-use report::say;
+use thresh::tally::finish;
+use thresh::tally::take_bytes;
+use verdict::report::say;
 
 // What one read of the file came to.
 enum Reading {
@@ -23,7 +22,7 @@ fn turn(fd: i32, t: Tally, room: &mut [u8], counts: &mut [u64; 512]) -> Reading 
         return Reading::End(t);
     }
     let n = io::count(got, &bytes);
-    Reading::More(tally::take_bytes(t, &bytes[..n], room, counts))
+    Reading::More(take_bytes(t, &bytes[..n], room, counts))
 }
 
 // Nothing says that a file ends, so the turns are counted down from a number that no run uses up.
@@ -55,7 +54,7 @@ fn replay(fd: i32, path: &[u8]) {
     let end = read_all(fd, &mut room, &mut counts);
     match end {
         Reading::More(_) => (),
-        Reading::End(t) => tally::finish(t, &room, &mut counts),
+        Reading::End(t) => finish(t, &room, &mut counts),
         Reading::Failed => refuse(b"cannot read ", path),
     }
 }
