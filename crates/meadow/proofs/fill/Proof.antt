@@ -1,7 +1,7 @@
 use borrow.Author.Needs.{needs}
 use Prim.Native.Nat.{_-_}
-use Rattle.deliveries.proofs.fill.Statement.{statement}
-use Rattle.deliveries.proofs.fill.Tie as tie
+use Rattle.meadow.proofs.fill.Statement.{statement}
+use Rattle.meadow.proofs.fill.Tie as tie
 
 abbrev Inv-loop : tie.InvT-loop
 Inv-loop mem₀ wide seed s₀ i₀ mem s i = Unit {0}
