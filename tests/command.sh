@@ -79,7 +79,7 @@ start='0000 0000 0000 01FF 0000 8000 00 00 30 0'
 none='0 00 00 0000 0000 00'
 
 # Where a source was touched since, the command looks first whether all is proved, and says so; here it has done that before the cases.
-for words in 'run' 'step' "replay $work/none"; do
+for words in 'run' 'trace' 'step' "replay $work/none"; do
   "$root/glavorint" $words >"$work/out" 2>&1
 done
 
@@ -257,7 +257,7 @@ told 'a list that agrees' 0 "$work/lines" "$work/nothing" replay "$list"
 told 'a spoiled list' 1 tests/replay/spoiled.out "$work/nothing" replay tests/replay/spoiled.txt
 echo "refused: cannot open $work/none" >"$work/lines"
 echo "$work/none: No such file or directory" >"$work/line"
-told 'no such list' 1 "$work/lines" "$work/line" replay "$work/none"
+told 'no such list' 2 "$work/lines" "$work/line" replay "$work/none"
 unfit 'replay of nothing' 'usage: replay FILE' replay
 "$root/glavorint" help >"$work/help"
 told 'help' 0 "$work/help" "$work/nothing" --help

@@ -75,7 +75,8 @@ copies=$((100000 / cases + 1))
 awk -v copies="$copies" '{ line[NR] = $0 } END { while (copies--) for (i = 1; i <= NR; i++) print line[i] }' "$list" >"$work/long.txt"
 all=$((copies * cases))
 told_line 'a long list' "$all lines: $all agree, 0 differ, 0 bad" "$work/long.txt"
-noted 'a long list' '100000 lines'
+[ ! -s "$work/err" ] || fail 'a long list: progress, though standard error is no terminal'
+passed=$((passed + 1))
 
 told_line 'no such file' "refused: cannot open $work/none" "$work/none"
 noted 'no such file' "$work/none: No such file or directory"

@@ -10,6 +10,12 @@ fn refuse(path: &[u8]) -> bool {
     false
 }
 
+// The system has no reason to add.
+fn refuse_name() -> bool {
+    complain(b"the memory isn't written: its name is missing or too long\n");
+    false
+}
+
 fn put(name: &mut [u8], at: usize, b: u8) {
     if at < name.len() {
         name[at] = b;
@@ -54,7 +60,7 @@ fn save_as(path: &[u8], arg: usize, name: &mut [u8], mem: &[u8; 65536]) -> bool 
     lengthen(name, n);
     let size = wrapping_add_usize(n, 7);
     if size > name.len() {
-        return refuse(b"its name is too long");
+        return refuse_name();
     }
     save_by(path, &mut name[0..size], mem)
 }
@@ -64,7 +70,7 @@ pub fn save(arg: usize, mem: &[u8; 65536]) -> bool {
     let mut path = io::buffer();
     let n = os::arg(arg, &mut path);
     if os::errno() != 0 {
-        return refuse(b"its name is missing or too long");
+        return refuse_name();
     }
     let mut name = io::buffer();
     save_as(&path[..n], arg, &mut name, mem)

@@ -3,7 +3,6 @@ use audit::rom::MOVE;
 use audit::rom::START;
 use audit::rom::STOP;
 use cpu::types::Record;
-use flags::Flags;
 use run::run::run;
 use std::num::wrapping_add_u32;
 use traced::traced::traced_run;
@@ -21,33 +20,7 @@ pub struct Day {
 
 // As a reset leaves the chip: emulation, 8 bits, no interrupts, S in page 1.
 fn awake() -> Record {
-    Record {
-        a: 0,
-        x: 0,
-        y: 0,
-        s: 0x01FF,
-        d: 0,
-        pc: START,
-        pbr: 0,
-        dbr: 0,
-        flags: Flags {
-            carry: false,
-            zero: false,
-            interruptdisable: true,
-            decimal: false,
-            indexsel: true,
-            memsel: true,
-            overflow: false,
-            negative: false,
-            emulation: true,
-        },
-        held: false,
-        ir: 0,
-        tcu: 0,
-        tempaddr: 0,
-        tempdata: 0,
-        tempbank: 0,
-    }
+    packed::bytes::start(0, 0, 0, 0x01FF, 0, START, 0, 0, 0x34, true)
 }
 
 fn is_at(r: Record, pc: u16) -> bool {

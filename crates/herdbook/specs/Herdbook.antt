@@ -19,7 +19,7 @@ use Rattle.opcodes.specs.declared.types.Operation.the-variants.{Plain, Read, Gi
 use Rattle.opcodes.specs.declared.types.Op.{Op}
 use Rattle.opcodes.specs.declared.types.Op.the-variants.{Unlisted, Listed}
 
--- from 1 on
+-- by number; the first only fills the place of 0
 unfoldable pub shapes : List Shape
 shapes = shape.Immediate ∷ shape.Immediate ∷ shape.Absolute ∷ shape.Direct ∷ shape.StoreAbsolute ∷ shape.StoreDirect ∷ shape.Implied ∷ shape.Xba ∷ shape.Mask ∷ shape.Wdm ∷ shape.Push ∷ shape.Pull ∷ shape.PullP ∷ shape.PullB ∷ shape.PullD ∷ shape.Pea ∷ shape.Pei ∷ shape.Per ∷ shape.Jump ∷ shape.JumpLong ∷ shape.JumpIndirect ∷ shape.JumpIndirectLong ∷ shape.JumpIndexed ∷ shape.Call ∷ shape.CallIndexed ∷ shape.CallLong ∷ shape.Return ∷ shape.ReturnLong ∷ shape.Branch ∷ shape.BranchLong ∷ shape.Move ∷ []
 

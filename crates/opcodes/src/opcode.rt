@@ -218,7 +218,7 @@ fn row(n: u8) -> u64
     }
 }
 
-// Whether a byte is listed, for the fetch. `decode` would do, but a second call of it keeps both from being inlined.
+// Whether a byte is listed, for the fetch. `herdbook::entry` would do, but a second call of it would keep both from being inlined.
 pub fn listed(op: u8) -> bool
     ensures { λ r. ⌜ r ≡ isListed (decodeOf op) ⌝ }
 {

@@ -1,5 +1,5 @@
 // The two entries of a cycle: the request of a record, and the record after the answered byte.
-// Whoever runs many cycles works out `next_micro` once a cycle, then calls `request_at` and `answer_at`.
+// Whoever runs many cycles works out `well_micro` once a cycle; crates/memory takes it apart once, and does both halves by it.
 ghost use mathlib.Core.Path.{_≡_};
 ghost use Rattle.opcodes.specs.Opcodes.{decodeOf};
 ghost use Rattle.step.specs.Cycle.{wellMicro, microOf, begun, askedBy, answeredBy, requestOf, answerOf};

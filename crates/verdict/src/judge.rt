@@ -7,9 +7,12 @@ use libc::STDERR_FILENO;
 use lines::types::Places;
 use lines::types::Tally;
 
-// A sign of life on long work.
+// A sign of life on long work, where somebody looks on.
 pub fn progress(n: u64) {
-    if n % 100000 == 0 {
+    if n % 100000 != 0 {
+        return;
+    }
+    if libc::isatty(STDERR_FILENO) != 0 {
         io::print_decimal(STDERR_FILENO, n);
         io::write_all(STDERR_FILENO, b" lines\n");
     }
