@@ -34,7 +34,7 @@ impl System for Bus {
     }
 }
 
-/// A program from 8000 on, and how it starts: P, E, A, X, Y.
+/// A program from 8000 on, and how it starts: P, E, A; X and Y are 0.
 struct Row {
     name: &'static str,
     code: Vec<u8>,

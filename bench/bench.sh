@@ -5,6 +5,13 @@ set -eu
 cd "$(dirname "$0")/.."
 source=${1:?usage: bench/bench.sh SOURCE [ROUNDS]}
 shift
+# Said before anything is built: what is missing.
+command -v rustc >/dev/null || { echo "bench: there is no rustc" >&2; exit 2; }
+rustc -vV | grep -q '^host: x86_64' || { echo "bench: the library is for x86-64, and rustc here is for $(rustc -vV | sed -n 's/^host: //p')" >&2; exit 2; }
+[ -f "$source/lib.rs" ] || { echo "bench: there is no $source/lib.rs, the crate's source" >&2; exit 2; }
+case ${1:-60} in
+'' | *[!0-9]* | 0) echo "bench: ROUNDS is a number from 1 on" >&2; exit 2 ;;
+esac
 out=target/bench
 mkdir -p $out
 library/build.sh >$out/say 2>&1 || { cat $out/say; exit 1; }

@@ -1,7 +1,7 @@
 /* Glavorint: a 65C816 whose every bus cycle is proved equal to a definition written from the chip's data sheet.
  *
- * The functions of target/library/libglavorint.a, which library/build.sh makes. They take numbers and lent bytes, keep nothing between calls,
- * allocate nothing and use nothing of the C library, so any number of machines may run side by side.
+ * The functions of target/library/libglavorint.a, which library/build.sh makes, for x86-64. They take numbers and lent bytes, keep nothing between
+ * calls, allocate nothing and use nothing of the C library, so any number of machines may run side by side.
  *
  * What a caller has to keep to, since no proof reaches across the call: every pointer is to as many bytes as the length beside it says, and
  * isn't null, be the length 0; the pieces lent to one call don't overlap, and nobody else uses them until it returns.

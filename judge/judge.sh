@@ -5,6 +5,10 @@ set -eu
 cd "$(dirname "$0")/.."
 source=${1:?usage: judge/judge.sh SOURCE [SEED CASES PROGRAMS [short]]}
 shift
+# Said before anything is built: what is missing.
+command -v rustc >/dev/null || { echo "judge: there is no rustc" >&2; exit 2; }
+rustc -vV | grep -q '^host: x86_64' || { echo "judge: the library is for x86-64, and rustc here is for $(rustc -vV | sed -n 's/^host: //p')" >&2; exit 2; }
+[ -f "$source/lib.rs" ] || { echo "judge: there is no $source/lib.rs, the crate's source" >&2; exit 2; }
 out=target/judge
 mkdir -p $out
 library/build.sh >$out/say 2>&1 || { cat $out/say; exit 1; }

@@ -18,6 +18,10 @@ fn main() {
         );
         exit(1);
     }
+    if env::var("CARGO_CFG_TARGET_ARCH").as_deref() != Ok("x86_64") {
+        eprintln!("The proved library is for x86-64 alone.");
+        exit(1);
+    }
     println!("cargo:rustc-link-search=native={}", folder.display());
     println!("cargo:rustc-link-lib=static=glavorint");
 }
