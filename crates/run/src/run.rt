@@ -71,7 +71,7 @@ fn strides(r: Record, mem: &mut [u8], budget: u32) -> Stretch
 {
     let mut at = cleared(r);
     let mut left = budget;
-    while left > 8 {
+    while left > 7 {
         let t = stride(at, mem);
         at = t.after;
         if t.cycles == 0 {
