@@ -2,8 +2,8 @@ use borrow.Author.Needs.{needs}
 use native.Mathlib.Omega.{arith}
 use Prim.Native.Nat.{_-_}
 use lib.ListN.{length}
-use Rattle.figures.proofs.single.figure.Statement.{statement}
-use Rattle.figures.proofs.single.figure.Tie as tie
+use Rattle.drill.proofs.figure.figure.Statement.{statement}
+use Rattle.drill.proofs.figure.figure.Tie as tie
 
 abbrev Inv-loop : tie.InvT-loop
 Inv-loop name bytes at₀ n₀ at n = Unit {0}
