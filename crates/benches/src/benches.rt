@@ -1,8 +1,8 @@
 // A trace and a bench session over a lent memory.
-use crate::say::say;
-use crate::say::say_end;
-use crate::say::say_step;
 use cpu::types::Record;
+use crier::say::say;
+use crier::say::say_end;
+use crier::say::say_step;
 use session::session::answered;
 use session::session::cycled;
 use session::session::start as begin;

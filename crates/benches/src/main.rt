@@ -1,6 +1,5 @@
 // Runs document 01's figures of a trace and of a session over a lent memory and prints what came. The file 'stdout' has what the paper says.
 mod benches;
-mod say;
 
 fn main() {
     benches::traces();

@@ -1,17 +1,17 @@
 // Runs over a lent memory that are refused, and the longest that isn't.
-use crate::say::say_end;
+use crier::say::say_run;
 use run::run::run;
 
 // A run at 8000, 8 bits wide.
 fn told(name: &[u8], emulation: bool, s: u16, pbr: u8, mem: &mut [u8; 65536], budget: u32) {
     let r = packed::bytes::start(0, 0, 0, s, 0, 0x8000, pbr, 0, 0x30, emulation);
-    say_end(name, run(r, mem, budget));
+    say_run(name, run(r, mem, budget));
 }
 
 pub fn short_memory() {
     let mut short = [0u8; 65535];
     let r = packed::bytes::start(0, 0, 0, 0x01FF, 0, 0x8000, 0, 0, 0x30, false);
-    say_end(b"memory of 65,535 bytes", run(r, &mut short, 1));
+    say_run(b"memory of 65,535 bytes", run(r, &mut short, 1));
 }
 
 pub fn refusals() {

@@ -1,7 +1,7 @@
 // Runs over a lent memory.
-use crate::say::say_byte;
-use crate::say::say_end;
 use cpu::types::Record;
+use crier::say::say_byte;
+use crier::say::say_run;
 use run::run::run;
 
 // In native mode at 8000. P gives M, X, D and C.
@@ -12,7 +12,7 @@ fn start(p: u8, a: u16) -> Record {
 // MVN in bank 0, from X on to Y on.
 fn moved(name: &[u8], p: u8, a: u16, x: u16, y: u16, mem: &mut [u8; 65536], budget: u32) {
     let r = packed::bytes::start(a, x, y, 0x01FF, 0, 0x8000, 0, 0, p, false);
-    say_end(name, run(r, mem, budget));
+    say_run(name, run(r, mem, budget));
 }
 
 pub fn moves() {
@@ -57,7 +57,7 @@ pub fn written() {
     let mut mem = [0u8; 65536];
     mem[0x8000] = 0x85;
     mem[0x8001] = 0x10;
-    say_end(
+    say_run(
         b"STA 10, then a byte that isn't listed",
         run(start(0x30, 0x0042), &mut mem, 10),
     );
@@ -74,5 +74,5 @@ fn internal(mem: &mut [u8; 65536]) {
         pbr: 1,
         ..start(0x30, 0x0042)
     };
-    say_end(b"the internal cycle of NOP in bank 01", run(nop, mem, 10));
+    say_run(b"the internal cycle of NOP in bank 01", run(nop, mem, 10));
 }

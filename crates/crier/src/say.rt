@@ -1,6 +1,7 @@
-// What the benches are printed with.
+// How runs and sessions ended, in words and numbers.
 use cpu::types::Record;
 use libc::STDOUT_FILENO;
+use run::types::Outcome;
 
 pub fn say(text: &[u8]) {
     io::write_all(STDOUT_FILENO, text);
@@ -34,6 +35,17 @@ pub fn say_end(refusal: u8, cycles: u32, r: Record) {
     say_number(b" cycles ", cycles as u64);
     say_words(r.a, r.x, r.y, r.pc);
     say_held(r.held);
+}
+
+// The same of a run, after its name.
+pub fn say_run(name: &[u8], o: Outcome) {
+    say(name);
+    say_end(o.refusal, o.cycles, o.after);
+}
+
+pub fn say_byte(name: &[u8], n: u8) {
+    say_number(name, n as u64);
+    say(b"\n");
 }
 
 // What a session's cycle came to.
