@@ -1,9 +1,6 @@
 // Where a cycle leads, and the record that this gives.
 ghost use mathlib.Core.Path.{_≡_};
 ghost use Rattle.act.specs.Act.{unless, movedOn, wayOf, nextCycle, arrived, actOf};
-use crate::mid::is_last;
-use crate::mid::mid_after;
-use crate::mid::target_of;
 use crate::regs::regs_after;
 use crate::types::Way;
 use cpu::record::finished;
@@ -16,6 +13,9 @@ use cpu::types::Regs;
 use cycles::types::Change;
 use cycles::types::Move;
 use cycles::types::To;
+use mid::is_last;
+use mid::mid_after;
+use mid::target_of;
 use opcodes::operation::cond_in;
 use opcodes::types::Operation;
 use words::same_page;

@@ -1,3 +1,2 @@
-// The cycles of the stack and of jumps: the lists of crates/cycles/specs/Cycles.antt, read by number.
+// The cycles of jumps, calls, returns, branches and moves: the lists of crates/cycles/specs/Cycles.antt, read by number.
 pub mod jumps;
-pub mod stack;

@@ -7,7 +7,7 @@ use mathlib.Core.Logic.{_⊎_, inl, inr}
 use lib.Dec.{T, eqb}
 use Rattle.words.specs.Words.{pick}
 use Rattle.opcodes.specs.Opcodes.{decodeOf, isListed, opcodes, oneBytes}
-use Rattle.opcodes.specs.Columns.{rowOf}
+use Rattle.opcodes.specs.Listed.{rowOf}
 
 abbrev bitOf : ℕ → Bool
 bitOf n = eqb (rowOf (n / 64) / (2 ^ (n % 64)) % 2) 1

@@ -101,10 +101,6 @@ abbrev pub isListed : Op → Bool
 isListed Unlisted = false
 isListed (Listed s o) = true
 
--- an instruction of one byte; NOP for a byte that is none
-unfoldable pub oneOf : ℕ → One
-oneOf n = find one.Nop n oneBytes
-
 -- ---- an operation's parts; the other operations have none, and what stands for it is never looked at
 abbrev pub aluOf : Operation → Alu
 aluOf (Read k r) = k

@@ -27,18 +27,18 @@ use flow::jumps::jump_long_at;
 use flow::jumps::move_at;
 use flow::jumps::return_at;
 use flow::jumps::return_long_at;
-use flow::stack::pea_at;
-use flow::stack::pei_at;
-use flow::stack::per_at;
-use flow::stack::pull_at;
-use flow::stack::pull_b_at;
-use flow::stack::pull_d_at;
-use flow::stack::pull_p_at;
-use flow::stack::push_at;
 use opcodes::operation::is_wide_operation;
 use opcodes::types::Op;
 use opcodes::types::Operation;
 use opcodes::types::Shape;
+use stack::pea_at;
+use stack::pei_at;
+use stack::per_at;
+use stack::pull_at;
+use stack::pull_b_at;
+use stack::pull_d_at;
+use stack::pull_p_at;
+use stack::push_at;
 
 // A shape's cycle, by its number.
 pub fn phase(s: Shape, w: bool, d: bool, e: bool, tcu: u8) -> Cycle

@@ -19,7 +19,8 @@ use Rattle.cycles.specs.declared.types.To.{To}
 use Rattle.cycles.specs.declared.types.To.the-variants as to
 use Rattle.cycles.specs.declared.types.Micro.{Micro}
 use Rattle.cycles.specs.declared.types.Micro.the-variants.{Refuse, Fetch, Held}
-use Rattle.act.specs.Act.{past, target, lastByte, midAfter, regsAfter, unless, movedOn, wayOf, arrived}
+use Rattle.mid.specs.Mid.{past, target, lastByte, midAfter}
+use Rattle.act.specs.Act.{regsAfter, unless, movedOn, wayOf, arrived}
 use Rattle.act.specs.declared.types.Way.{Way}
 use Rattle.act.specs.declared.types.Way.the-variants.{On, End, Again}
 use Rattle.step.specs.Cycle.{microOf, begun, answeredBy, answerOf}

@@ -30,7 +30,8 @@ use Rattle.cycles.specs.declared.types.To.the-variants as to
 use Rattle.cycles.specs.declared.types.Micro.{Micro}
 use Rattle.cycles.specs.declared.types.Micro.the-variants.{Refuse, Fetch, Held}
 use Rattle.bus.specs.Bus.{askOf}
-use Rattle.act.specs.Act.{midAfter, regsAfter, wayOf, actOf}
+use Rattle.mid.specs.Mid.{midAfter}
+use Rattle.act.specs.Act.{regsAfter, wayOf, actOf}
 use Rattle.step.specs.Answers.{answerNumber, askedNumber, askedValues}
 use Rattle.step.specs.Cycle.{microOf, askedBy, answeredBy, requestOf, answerOf}
 use Rattle.sheet.proofs.Walk.{and-left, and-right, false-true}

@@ -15,7 +15,7 @@ use Rattle.cycles.specs.declared.types.Move.the-variants.{Step}
 use Rattle.cycles.specs.declared.types.Change.the-variants.{Keep}
 use Rattle.cycles.specs.declared.types.To.the-variants.{On}
 use Rattle.cycles.specs.declared.types.Micro.the-variants.{Fetch, Held}
-use Rattle.act.specs.Act.{past}
+use Rattle.mid.specs.Mid.{past}
 use Rattle.step.specs.Cycle.{microOf, begun, askedBy, answeredBy}
 use Rattle.sheet.specs.Run.{Ran, also, after, later, run}
 use Rattle.sheet.specs.Sheet.{O, K, row, instruction}

@@ -22,7 +22,7 @@ use Rattle.opcodes.specs.declared.types.Operation.{Operation}
 use Rattle.opcodes.specs.declared.types.Shape.{Shape}
 use Rattle.opcodes.specs.declared.types.Shape.the-variants.{Immediate, Absolute, Direct, StoreAbsolute, StoreDirect, Implied, Xba, Mask, Wdm, Push, Pull, PullP, PullB, PullD, Pea, Pei, Per, Jump, JumpLong, JumpIndirect, JumpIndirectLong, JumpIndexed, Call, CallIndexed, CallLong, Return, ReturnLong, Branch, BranchLong, Move}
 use Rattle.cycles.specs.Cycles.{cyclesOf, mask, pullD}
-use Rattle.act.specs.Act.{past, setS}
+use Rattle.mid.specs.Mid.{past, setS}
 use Rattle.sheet.specs.Run.{also, later}
 use Rattle.sheet.specs.Sheet.{O, K, sheet}
 use Rattle.sheet.proofs.Walk.{walk, run-walks, both-true, widths-of}

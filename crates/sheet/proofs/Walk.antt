@@ -37,7 +37,8 @@ use Rattle.cycles.specs.declared.types.Cycle.{Cycle}
 use Rattle.cycles.specs.declared.types.Cycle.the-variants.{Absent, Present}
 use Rattle.cycles.specs.declared.types.Micro.{Micro}
 use Rattle.bus.specs.Bus.{askOf}
-use Rattle.act.specs.Act.{midAfter, regsAfter, wayOf, arrived, nextCycle}
+use Rattle.mid.specs.Mid.{midAfter}
+use Rattle.act.specs.Act.{regsAfter, wayOf, arrived, nextCycle}
 use Rattle.act.specs.declared.types.Way.{Way}
 use Rattle.act.specs.declared.types.Way.the-variants.{On, End, Again}
 use Rattle.step.specs.Cycle.{microOf, askedBy, answeredBy, requestOf, answerOf}

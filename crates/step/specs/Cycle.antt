@@ -16,7 +16,8 @@ use Rattle.cycles.specs.Cycles.{heldMicro}
 use Rattle.cycles.specs.declared.types.Micro.{Micro}
 use Rattle.cycles.specs.declared.types.Micro.the-variants.{Refuse, Fetch, Held}
 use Rattle.bus.specs.Bus.{reads, here, askOf}
-use Rattle.act.specs.Act.{past, actOf}
+use Rattle.mid.specs.Mid.{past}
+use Rattle.act.specs.Act.{actOf}
 
 -- what a well-formed record's next cycle does, and any record's
 abbrev pub wellMicro : Record → Micro

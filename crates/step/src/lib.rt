@@ -4,7 +4,6 @@ ghost use mathlib.Core.Path.{_≡_};
 ghost use Rattle.opcodes.specs.Opcodes.{decodeOf};
 ghost use Rattle.step.specs.Cycle.{wellMicro, microOf, begun, askedBy, answeredBy, requestOf, answerOf};
 use act::arrive::act;
-use act::mid::step_pc;
 use bus::ask;
 use bus::code;
 use bus::read;
@@ -19,6 +18,7 @@ use cpu::types::Record;
 use cpu::types::Refusal;
 use cycles::types::Micro;
 use herdbook::entry;
+use mid::step_pc;
 use opcodes::opcode::listed;
 use phase::held_micro;
 

@@ -6,8 +6,8 @@ ghost use Rattle.cycles.specs.Cycles.{unaligned};
 ghost use Rattle.opcodes.specs.Opcodes.{decodeOf};
 ghost use Rattle.tables.specs.Counts.{columnAt, wideAt, countAt, lengthAt};
 use crate::shape::shape_of;
+use decode::decode;
 use flags::Flags;
-use opcodes::opcode::decode;
 use opcodes::operation::is_wide_operation;
 use opcodes::types::Op;
 
