@@ -19,7 +19,7 @@ isSlow Slow = true
 isSlow (Read m k r) = false
 isSlow (Store m k) = false
 isSlow (Do k) = false
-isSlow (If k) = false
+isSlow (If k t) = false
 isSlow Jump = false
 isSlow (Move t) = false
 
@@ -42,7 +42,7 @@ slow Slow n kss t h = refl
 slow (Read m k r) n kss t h = not-missed n kss t h
 slow (Store m k) n kss t h = not-missed n kss t h
 slow (Do k) n kss t h = not-missed n kss t h
-slow (If k) n kss t h = not-missed n kss t h
+slow (If k t′) n kss t h = not-missed n kss t h
 slow Jump n kss t h = not-missed n kss t h
 slow (Move t′) n kss t h = not-missed n kss t h
 

@@ -3,9 +3,9 @@ ghost use mathlib.Core.Path.{_≡_};
 ghost use Rattle.quick.specs.Quick.{quickOf};
 use crate::types::Mode;
 use crate::types::Quick;
+use crate::types::Test;
 use alu::types::Alu;
 use alu::types::Shift;
-use cpu::types::Cond;
 use cpu::types::One;
 use cpu::types::Reg;
 use cpu::types::Source;
@@ -21,7 +21,7 @@ pub fn quick(op: u8) -> Quick
         0x09 => Quick::Read(Mode::Immediate, Alu::Ora, Reg::A),
         0x0A => Quick::Do(One::Accumulator(Shift::Asl)),
         0x0D => Quick::Read(Mode::Absolute, Alu::Ora, Reg::A),
-        0x10 => Quick::If(Cond::Negative(false)),
+        0x10 => Quick::If(Test::Negative, false),
         0x18 => Quick::Do(One::Carry(false)),
         0x1A => Quick::Do(One::Accumulator(Shift::Inc)),
         0x1B => Quick::Do(One::Tcs),
@@ -31,7 +31,7 @@ pub fn quick(op: u8) -> Quick
         0x2A => Quick::Do(One::Accumulator(Shift::Rol)),
         0x2C => Quick::Read(Mode::Absolute, Alu::Bit, Reg::A),
         0x2D => Quick::Read(Mode::Absolute, Alu::And, Reg::A),
-        0x30 => Quick::If(Cond::Negative(true)),
+        0x30 => Quick::If(Test::Negative, true),
         0x38 => Quick::Do(One::Carry(true)),
         0x3A => Quick::Do(One::Accumulator(Shift::Dec)),
         0x3B => Quick::Do(One::Tsc),
@@ -41,7 +41,7 @@ pub fn quick(op: u8) -> Quick
         0x4A => Quick::Do(One::Accumulator(Shift::Lsr)),
         0x4C => Quick::Jump,
         0x4D => Quick::Read(Mode::Absolute, Alu::Eor, Reg::A),
-        0x50 => Quick::If(Cond::Overflow(false)),
+        0x50 => Quick::If(Test::Overflow, false),
         0x54 => Quick::Move(true),
         0x58 => Quick::Do(One::Interrupt(false)),
         0x5B => Quick::Do(One::Tcd),
@@ -50,10 +50,10 @@ pub fn quick(op: u8) -> Quick
         0x69 => Quick::Read(Mode::Immediate, Alu::Adc, Reg::A),
         0x6A => Quick::Do(One::Accumulator(Shift::Ror)),
         0x6D => Quick::Read(Mode::Absolute, Alu::Adc, Reg::A),
-        0x70 => Quick::If(Cond::Overflow(true)),
+        0x70 => Quick::If(Test::Overflow, true),
         0x78 => Quick::Do(One::Interrupt(true)),
         0x7B => Quick::Do(One::Tdc),
-        0x80 => Quick::If(Cond::Always),
+        0x80 => Quick::If(Test::Always, true),
         0x84 => Quick::Store(Mode::Direct, Source::Register(Reg::Y)),
         0x85 => Quick::Store(Mode::Direct, Source::Register(Reg::A)),
         0x86 => Quick::Store(Mode::Direct, Source::Register(Reg::X)),
@@ -63,7 +63,7 @@ pub fn quick(op: u8) -> Quick
         0x8C => Quick::Store(Mode::Absolute, Source::Register(Reg::Y)),
         0x8D => Quick::Store(Mode::Absolute, Source::Register(Reg::A)),
         0x8E => Quick::Store(Mode::Absolute, Source::Register(Reg::X)),
-        0x90 => Quick::If(Cond::Carry(false)),
+        0x90 => Quick::If(Test::Carry, false),
         0x98 => Quick::Do(One::Transfer(Reg::Y, Reg::A)),
         0x9A => Quick::Do(One::Txs),
         0x9B => Quick::Do(One::Transfer(Reg::X, Reg::Y)),
@@ -79,7 +79,7 @@ pub fn quick(op: u8) -> Quick
         0xAC => Quick::Read(Mode::Absolute, Alu::Load, Reg::Y),
         0xAD => Quick::Read(Mode::Absolute, Alu::Load, Reg::A),
         0xAE => Quick::Read(Mode::Absolute, Alu::Load, Reg::X),
-        0xB0 => Quick::If(Cond::Carry(true)),
+        0xB0 => Quick::If(Test::Carry, true),
         0xB8 => Quick::Do(One::Clv),
         0xBA => Quick::Do(One::Tsx),
         0xBB => Quick::Do(One::Transfer(Reg::Y, Reg::X)),
@@ -91,7 +91,7 @@ pub fn quick(op: u8) -> Quick
         0xCA => Quick::Do(One::Index(Reg::X, false)),
         0xCC => Quick::Read(Mode::Absolute, Alu::Cmp, Reg::Y),
         0xCD => Quick::Read(Mode::Absolute, Alu::Cmp, Reg::A),
-        0xD0 => Quick::If(Cond::Zero(false)),
+        0xD0 => Quick::If(Test::Zero, false),
         0xD8 => Quick::Do(One::Decimal(false)),
         0xE0 => Quick::Read(Mode::Immediate, Alu::Cmp, Reg::X),
         0xE4 => Quick::Read(Mode::Direct, Alu::Cmp, Reg::X),
@@ -101,7 +101,7 @@ pub fn quick(op: u8) -> Quick
         0xEA => Quick::Do(One::Nop),
         0xEC => Quick::Read(Mode::Absolute, Alu::Cmp, Reg::X),
         0xED => Quick::Read(Mode::Absolute, Alu::Sbc, Reg::A),
-        0xF0 => Quick::If(Cond::Zero(true)),
+        0xF0 => Quick::If(Test::Zero, true),
         0xF8 => Quick::Do(One::Decimal(true)),
         0xFB => Quick::Do(One::Xce),
         _ => Quick::Slow,

@@ -1,6 +1,5 @@
 // An opcode as a quick path takes it: what it does, and where its operand lies.
 use alu::types::Alu;
-use cpu::types::Cond;
 use cpu::types::One;
 use cpu::types::Reg;
 use cpu::types::Source;
@@ -11,12 +10,21 @@ pub enum Mode {
     Absolute,
 }
 
+// What a branch looks at.
+pub enum Test {
+    Always,
+    Carry,
+    Zero,
+    Negative,
+    Overflow,
+}
+
 pub enum Quick {
     Slow, // any other opcode, and a byte that is none
     Read(Mode, Alu, Reg),
     Store(Mode, Source),
     Do(One),
-    If(Cond),
+    If(Test, bool), // and what the flag must be
     Jump,
     Move(bool), // MVP, downwards: false, MVN, upwards: true
 }

@@ -4,18 +4,21 @@ use mathlib.Core.Path.{_≡_, refl, ap, sym, subst, _∙_}
 use mathlib.Core.Bool.{Bool, true, false, not, _&&_, _||_}
 use mathlib.Core.List.{List, [], _∷_}
 use lib.Dec.{T, eqb, ltb}
-use lib.ListN.{length, getD, set}
+use lib.ListN.{length, getD}
 use native.Mathlib.Omega.{arith}
 use borrow.Author.Tests.{eq-eqb, eqb-true, eqb-false, ltb-true}
-use Rattle.words.specs.Words.{pick, bit, lowOf, up, dec, displaced, samePage}
-use Rattle.cpu.specs.Record.{wellFormed, boundary, isMove, sourceOf, holds, ended, regsOf}
-use Rattle.cpu.specs.Registers.{wideReg}
+use Rattle.words.specs.Words.{pick, bit, lowOf, up, displaced, samePage}
+use Rattle.cpu.specs.Record.{wellFormed, isMove, sourceOf, holds, ended, regsOf}
 use Rattle.alu.specs.declared.types.Alu.{Alu}
 use Rattle.cpu.specs.declared.types.Record.{Record}
 use Rattle.cpu.specs.declared.types.Reg.{Reg}
 use Rattle.cpu.specs.declared.types.Regs.{Regs}
 use Rattle.cpu.specs.declared.types.Source.{Source}
-use Rattle.opcodes.specs.Opcodes.{Row, find, oneBytes, opcodes, decodeOf, wideOf, flagIn}
+use Rattle.cpu.specs.declared.types.Request.{Request}
+use Rattle.cpu.specs.declared.types.Cond.{Cond}
+use Rattle.cpu.specs.declared.types.Cond.the-variants as if
+use Rattle.flags.specs.declared.Flags.{Flags}
+use Rattle.opcodes.specs.Opcodes.{Row, find, oneBytes, opcodes, decodeOf, wideOf, condIn, flagIn}
 use Rattle.opcodes.specs.declared.types.Op.{Op}
 use Rattle.opcodes.specs.declared.types.Op.the-variants.{Unlisted, Listed}
 use Rattle.opcodes.specs.declared.types.Operation.{Operation}
@@ -23,15 +26,18 @@ use Rattle.opcodes.specs.declared.types.Operation.the-variants as operation
 use Rattle.opcodes.specs.declared.types.Shape.{Shape}
 use Rattle.opcodes.specs.declared.types.Shape.the-variants.{Immediate, Absolute, Direct, StoreAbsolute, StoreDirect, Implied, Xba, Mask, Wdm, Push, Pull, PullP, PullB, PullD, Pea, Pei, Per, Jump, JumpLong, JumpIndirect, JumpIndirectLong, JumpIndexed, Call, CallIndexed, CallLong, Return, ReturnLong, Branch, BranchLong, Move}
 use Rattle.cycles.specs.Cycles.{unaligned}
-use Rattle.quick.specs.Quick.{quickened, quickOf}
+use Rattle.quick.specs.Quick.{quickened, quickOf, testIn, wantIn, goes}
 use Rattle.sheet.specs.Run.{run}
 use Rattle.sheet.specs.Sheet.{sheet, row, instruction}
 use Rattle.sheet.proofs.Walk.{false-true, and-left, and-right}
 use Rattle.sheet.proofs.Demand2.{demand-2, between-bytes}
-use Rattle.run.specs.Runs.{size}
-use Rattle.stride.specs.Strides.{fresh, there, operand, inside, opcode, legBy, memBy, legOf, memOf, arrived, placed, storing, between, near, hauled, carried, spotOf, reading, stretch, strideOf, strideMem, hauls, haulOf, haulMem}
-use Rattle.run.specs.Passes.{Passes, Goes}
-use Rattle.stride.specs.declared.types.Leg.{Leg}
+use Rattle.run.specs.Runs.{runOf, size}
+use Rattle.stride.specs.Strides.{fresh, there, operand, inside, opcode, legBy, memBy, legOf, memOf, arrived, placed, storing, branching, spotOf, reading, stretch, strideOf, strideMem}
+use Rattle.haul.specs.Hauls.{between, near, hauled, carried, hauls, haulOf, haulMem}
+use Rattle.tracks.specs.Tracks.{trackBy, trackOf, trackLines, placeBy, strideLines, haulLines}
+use Rattle.tracks.specs.declared.types.Track.{Track}
+use Rattle.tracks.specs.declared.types.Track.the-variants as track
+use Rattle.run.specs.Passes.{Passes, Leaves, Goes}
 use Rattle.stride.specs.declared.types.Stretch.{Stretch}
 use Rattle.run.proofs.Whole.{passes-none}
 use Rattle.quick.specs.declared.types.Mode.{Mode}
@@ -39,7 +45,7 @@ use Rattle.quick.specs.declared.types.Mode.the-variants as mode
 use Rattle.quick.specs.declared.types.Quick.{Quick}
 use Rattle.quick.specs.declared.types.Quick.the-variants as quick
 use Rattle.sheet.proofs.Kept.{well-ended}
-use Rattle.run.proofs.Strides.{directBus, storeBus, immediate-passes, direct-passes, absolute-passes, store-direct-passes, store-absolute-passes, do-passes, jump-passes, branch-passes, move-passes}
+use Rattle.run.proofs.Strides.{directBus, storeBus, immediate-leaves, direct-leaves, absolute-leaves, store-direct-leaves, store-absolute-leaves, do-leaves, jump-leaves, branch-leaves, move-leaves}
 
 -- ---- shapes that read have operations that do, and likewise those that store
 abbrev isRead : Operation → Bool
@@ -114,14 +120,30 @@ decoded-suits : (n : ℕ) (s : Shape) (o : Operation) → decodeOf n ≡ Listed 
 unfolding decodeOf opcodes oneBytes
 decoded-suits n s o h = ap suited (sym h) ∙ found-suited n opcodes tt
 
+-- a branch's condition, in its parts
+goes-holds : (c : Cond) (f : Flags) → goes (testIn c) (wantIn c) f ≡ holds c f
+goes-holds if.Always f = refl
+goes-holds (if.Carry t) f = refl
+goes-holds (if.Zero t) f = refl
+goes-holds (if.Negative t) f = refl
+goes-holds (if.Overflow t) f = refl
+
 -- ---- by the shape
 module _ (r : Record) (m : List ℕ) (whole : length m ≡ size) (well : wellFormed r ≡ true) (bank : r .pbr ≡ 0) (small : r .pc < 65536) where
   abbrev op : ℕ
   op = there r m (r .pc)
 
+  -- the lines of a track
+  abbrev linesBy : Track → (n : ℕ) → List ℕ → List Request
+  linesBy t n k =
+      trackLines t (unaligned (r .d)) op (there r m (up (r .pc) 1)) (there r m (up (r .pc) 2)) (r .pc)
+      (placeBy t (r .d) (there r m (up (r .pc) 1)) (there r m (up (r .pc) 2))) n k
+
   -- what is to be shown of an opcode
   abbrev Stride : ℕ → Op → Type 0
-  Stride i q = (legBy r m (quickened q) .cycles ≡ 0 → ⊥) → Passes (legBy r m (quickened q) .cycles) r m (arrived i (legBy r m (quickened q))) (memBy r m (quickened q))
+  Stride i q = (legBy r m (quickened q) .cycles ≡ 0 → ⊥)
+      → Leaves (legBy r m (quickened q) .cycles) r m (arrived i (legBy r m (quickened q))) (memBy r m (quickened q))
+      (linesBy (trackBy (quickened q)) (legBy r m (quickened q) .cycles) (memBy r m (quickened q)))
 
   abbrev wide : Operation → Bool
   wide o = wideOf o (r .flags .memsel) (r .flags .indexsel)
@@ -148,9 +170,10 @@ module _ (r : Record) (m : List ℕ) (whole : length m ≡ size) (well : wellFor
     absolute-read (operation.Read k g) h d true i =
         subst
         (λ (t : Bool). (pick t (4 + bit (wide (operation.Read k g))) 0 ≡ 0 → ⊥)
-        → Passes (pick t (4 + bit (wide (operation.Read k g))) 0) r m (arrived op (reading r m (spotOf r m mode.Absolute (wide (operation.Read k g))) k g (wide (operation.Read k g)))) m)
+        → Leaves (pick t (4 + bit (wide (operation.Read k g))) 0) r m (arrived op (reading r m (spotOf r m mode.Absolute (wide (operation.Read k g))) k g (wide (operation.Read k g)))) m
+        (linesBy track.ReadAbsolute (pick t (4 + bit (wide (operation.Read k g))) 0) m))
         (sym i)
-        (λ _. absolute-passes r m whole bank small k g emulated (in-bank-0 i) (in-room i) (wide (operation.Read k g)) skew (row-is _ _ _ refl d))
+        (λ _. absolute-leaves r m whole bank small k g emulated (in-bank-0 i) (in-room i) (wide (operation.Read k g)) skew (row-is _ _ _ refl d))
     absolute-read (operation.Read k g) h d false i = λ n. absurd (n (rw i))
     absolute-read operation.Plain h d t i = absurd (false-true h)
     absolute-read (operation.Give s) h d t i = absurd (false-true h)
@@ -160,7 +183,7 @@ module _ (r : Record) (m : List ℕ) (whole : length m ≡ size) (well : wellFor
     absolute-read (operation.Flag f) h d t i = absurd (false-true h)
 
     immediate-read : (o : Operation) → isRead o ≡ true → decodeOf op ≡ Listed Immediate o → Stride op (Listed Immediate o)
-    immediate-read (operation.Read k g) h d = λ _. immediate-passes r m whole bank small k g emulated (wide (operation.Read k g)) skew (row-is _ _ _ refl d)
+    immediate-read (operation.Read k g) h d = λ _. immediate-leaves r m whole bank small k g emulated (wide (operation.Read k g)) skew (row-is _ _ _ refl d)
     immediate-read operation.Plain h d = absurd (false-true h)
     immediate-read (operation.Give s) h d = absurd (false-true h)
     immediate-read (operation.Take g) h d = absurd (false-true h)
@@ -174,7 +197,7 @@ module _ (r : Record) (m : List ℕ) (whole : length m ≡ size) (well : wellFor
     direct-first k g false = refl
 
     direct-read : (o : Operation) → isRead o ≡ true → decodeOf op ≡ Listed Direct o → Stride op (Listed Direct o)
-    direct-read (operation.Read k g) h d = λ _. direct-passes r m whole bank small k g emulated (wide (operation.Read k g)) skew (row-is _ _ _ (direct-first k g skew) d)
+    direct-read (operation.Read k g) h d = λ _. direct-leaves r m whole bank small k g emulated (wide (operation.Read k g)) skew (row-is _ _ _ (direct-first k g skew) d)
     direct-read operation.Plain h d = absurd (false-true h)
     direct-read (operation.Give s) h d = absurd (false-true h)
     direct-read (operation.Take g) h d = absurd (false-true h)
@@ -200,8 +223,11 @@ module _ (r : Record) (m : List ℕ) (whole : length m ≡ size) (well : wellFor
 
     direct-store : (o : Operation) → isGive o ≡ true → decodeOf op ≡ Listed StoreDirect o → Stride op (Listed StoreDirect o)
     direct-store (operation.Give src) h d = λ _.
-        subst (Passes _ r m _) (sym (direct-count (wide (operation.Give src)) skew m _))
-        (store-direct-passes r m whole bank small src emulated (wide (operation.Give src)) skew (row-is _ _ _ (store-first src skew) d))
+        let n : ℕ = 3 + bit (wide (operation.Give src)) + bit skew in
+        subst
+        (λ (k : List ℕ). Leaves n r m (arrived op (storing r m (spotOf r m mode.Direct (wide (operation.Give src))))) k (linesBy track.StoreDirect n k))
+        (sym (direct-count (wide (operation.Give src)) skew m _))
+        (store-direct-leaves r m whole bank small src emulated (wide (operation.Give src)) skew (row-is _ _ _ (store-first src skew) d))
     direct-store operation.Plain h d = absurd (false-true h)
     direct-store (operation.Read k g) h d = absurd (false-true h)
     direct-store (operation.Take g) h d = absurd (false-true h)
@@ -214,11 +240,12 @@ module _ (r : Record) (m : List ℕ) (whole : length m ≡ size) (well : wellFor
         let w : Bool = wide (operation.Give src) in
         subst
         (λ (t : Bool). (pick t (4 + bit w) 0 ≡ 0 → ⊥)
-        → Passes (pick t (4 + bit w) 0) r m (arrived op (storing r m (spotOf r m mode.Absolute w)))
-        (pick (eqb (pick t (4 + bit w) 0) 0) m (placed w (operand r m) (sourceOf src (regsOf r) (r .pbr) (r .dbr)) m)))
+        → let k : List ℕ = pick (eqb (pick t (4 + bit w) 0) 0) m (placed w (operand r m) (sourceOf src (regsOf r) (r .pbr) (r .dbr)) m) in
+        Leaves (pick t (4 + bit w) 0) r m (arrived op (storing r m (spotOf r m mode.Absolute w))) k (linesBy track.StoreAbsolute (pick t (4 + bit w) 0) k))
         (sym i)
-        (λ _. subst (Passes _ r m _) (sym (absolute-count w m _))
-        (store-absolute-passes r m whole bank small src emulated (in-bank-0 i) (in-room i) w skew (row-is _ _ _ refl d)))
+        (λ _. subst (λ (k : List ℕ). Leaves (4 + bit w) r m (arrived op (storing r m (spotOf r m mode.Absolute w))) k (linesBy track.StoreAbsolute (4 + bit w) k))
+        (sym (absolute-count w m _))
+        (store-absolute-leaves r m whole bank small src emulated (in-bank-0 i) (in-room i) w skew (row-is _ _ _ refl d)))
     absolute-store (operation.Give src) h d false i = λ n. absurd (n (rw i))
     absolute-store operation.Plain h d t i = absurd (false-true h)
     absolute-store (operation.Read k g) h d t i = absurd (false-true h)
@@ -234,7 +261,7 @@ module _ (r : Record) (m : List ℕ) (whole : length m ≡ size) (well : wellFor
     by-shape (Listed Direct o) d = direct-read o (decoded-suits op Direct o d) d
     by-shape (Listed StoreAbsolute o) d = absolute-store o (decoded-suits op StoreAbsolute o d) d (inside r m (operand r m)) refl
     by-shape (Listed StoreDirect o) d = direct-store o (decoded-suits op StoreDirect o d) d
-    by-shape (Listed Implied o) d = λ _. do-passes r m whole bank small o (wide o) skew emulated (row-is _ _ _ refl d)
+    by-shape (Listed Implied o) d = λ _. do-leaves r m whole bank small o (wide o) skew emulated (row-is _ _ _ refl d)
     by-shape (Listed Xba o) d = λ n. absurd (n refl)
     by-shape (Listed Mask o) d = λ n. absurd (n refl)
     by-shape (Listed Wdm o) d = λ n. absurd (n refl)
@@ -246,7 +273,7 @@ module _ (r : Record) (m : List ℕ) (whole : length m ≡ size) (well : wellFor
     by-shape (Listed Pea o) d = λ n. absurd (n refl)
     by-shape (Listed Pei o) d = λ n. absurd (n refl)
     by-shape (Listed Per o) d = λ n. absurd (n refl)
-    by-shape (Listed Jump o) d = λ _. jump-passes r m whole bank small o (wide o) skew emulated (row-is _ _ _ refl d)
+    by-shape (Listed Jump o) d = λ _. jump-leaves r m whole bank small o (wide o) skew emulated (row-is _ _ _ refl d)
     by-shape (Listed JumpLong o) d = λ n. absurd (n refl)
     by-shape (Listed JumpIndirect o) d = λ n. absurd (n refl)
     by-shape (Listed JumpIndirectLong o) d = λ n. absurd (n refl)
@@ -256,14 +283,20 @@ module _ (r : Record) (m : List ℕ) (whole : length m ≡ size) (well : wellFor
     by-shape (Listed CallLong o) d = λ n. absurd (n refl)
     by-shape (Listed Return o) d = λ n. absurd (n refl)
     by-shape (Listed ReturnLong o) d = λ n. absurd (n refl)
-    by-shape (Listed Branch o) d = λ _. branch-passes r m whole bank small o (wide o) skew (row-is _ _ _ refl d)
+    by-shape (Listed Branch o) d =
+        subst
+        (λ (t : Bool). (branching r m t .cycles ≡ 0 → ⊥)
+        → Leaves (branching r m t .cycles) r m (arrived op (branching r m t)) m (linesBy track.Branch (branching r m t .cycles) m))
+        (sym (goes-holds (condIn o) (r .flags)))
+        (λ _. branch-leaves r m whole bank small o (wide o) skew (row-is _ _ _ refl d))
     by-shape (Listed BranchLong o) d = λ n. absurd (n refl)
     by-shape (Listed Move o) d = λ n. absurd (n refl)
 
-  -- A stride from a fresh record comes to what so many cycles come to.
-  pub leg-passes : r .held ≡ false → (legOf r m .cycles ≡ 0 → ⊥) → Passes (legOf r m .cycles) r m (arrived (opcode r m) (legOf r m)) (memOf r m)
-  unfolding quickOf
-  leg-passes h = by-shape h (decodeOf op) refl
+  -- A stride from a fresh record comes to what so many cycles come to, and these are their lines.
+  pub leg-leaves : r .held ≡ false → (legOf r m .cycles ≡ 0 → ⊥)
+      → Leaves (legOf r m .cycles) r m (arrived (opcode r m) (legOf r m)) (memOf r m) (strideLines r m (memOf r m) (legOf r m .cycles))
+  unfolding quickOf trackOf
+  leg-leaves h = by-shape h (decodeOf op) refl
 
 -- ---- the code's answer
 module _ (r : Record) (m : List ℕ) where
@@ -273,7 +306,7 @@ module _ (r : Record) (m : List ℕ) where
   still (quick.Read mode k g) h = refl
   still (quick.Store mode o) h = rw h
   still (quick.Do k) h = refl
-  still (quick.If c) h = refl
+  still (quick.If k want) h = refl
   still quick.Jump h = refl
   still (quick.Move ups) h = refl
 
@@ -308,8 +341,8 @@ module _ (r : Record) (m : List ℕ) where
   short (quick.Read k o g) = spot-short k _
   short (quick.Store k o) = spot-short k _
   short (quick.Do k) = omega arith
-  short (quick.If c) =
-      branch-short (holds c (r .flags)) (r .flags .emulation && not (samePage (up (r .pc) 2) (displaced (up (r .pc) 2) (lowOf (there r m (up (r .pc) 1))))))
+  short (quick.If k want) =
+      branch-short (goes k want (r .flags)) (r .flags .emulation && not (samePage (up (r .pc) 2) (displaced (up (r .pc) 2) (lowOf (there r m (up (r .pc) 1))))))
   short quick.Jump = omega arith
   short (quick.Move ups) = omega arith
 
@@ -333,6 +366,7 @@ module _ (r : Record) (m : List ℕ) (whole : length m ≡ size) (well : wellFor
 
   abbrev Answered : Stretch → List ℕ → Type 0
   Answered t k = Goes r m t k × ((t .cycles < 8) × (fresh (t .after) ≡ true))
+      × ((t .cycles ≡ 0 → ⊥) → runOf (t .cycles) r m .lines ≡ strideLines r m k (t .cycles))
 
   fresh-again : (i p s d : ℕ) (g : Regs) → fresh (ended i false 0 p s d g) ≡ true
   unfolding ended
@@ -341,11 +375,14 @@ module _ (r : Record) (m : List ℕ) (whole : length m ≡ size) (well : wellFor
   answered-by : (z : Bool) → eqb (legOf r m .cycles) 0 ≡ z → Answered (answer z) (memOf r m)
   answered-by true e =
       let s : memOf r m ≡ m = still r m (quickOf (opcode r m)) (eqb-true _ _ e) in
-      ((subst (Passes 0 r m r) (sym s) (passes-none r m), well), (omega arith, start))
-  answered-by false e = (
-    (leg-passes r m whole well bank-0 small unheld (eqb-false _ _ e), well-ended _ _ _ _ _ _ _),
-    (short r m (quickOf (opcode r m)), fresh-again _ _ _ _ _),
-  )
+      ((subst (Passes 0 r m r) (sym s) (passes-none r m), well), (omega arith, start), λ n. absurd (n refl))
+  answered-by false e =
+      let l : Leaves (legOf r m .cycles) r m (arrived (opcode r m) (legOf r m)) (memOf r m) (strideLines r m (memOf r m) (legOf r m .cycles)) =
+      leg-leaves r m whole well bank-0 small unheld (eqb-false _ _ e) in (
+        (l .passes, well-ended _ _ _ _ _ _ _),
+        (short r m (quickOf (opcode r m)), fresh-again _ _ _ _ _),
+        λ _. l .lines,
+      )
 
   stride-is : strideOf r m ≡ answer (eqb (legOf r m .cycles) 0)
   unfolding strideOf
@@ -363,6 +400,10 @@ module _ (r : Record) (m : List ℕ) (whole : length m ≡ size) (well : wellFor
 -- ---- a byte of a move that is under way
 module _ (r : Record) (m : List ℕ) (whole : length m ≡ size) (well : wellFormed r ≡ true) (small : r .pc < 65536) (x-small : r .x < 65536)
     (y-small : r .y < 65536) where
+  -- the lines of a byte, by the memory after it
+  abbrev byteLines : List ℕ → List Request
+  byteLines k = haulLines (there r m (r .pc)) (there r m (up (r .pc) 1)) (there r m (up (r .pc) 2)) (r .pc) (r .x) (r .y) (there r m (r .x)) (getD k (r .y) 0)
+
   module _ (bank : r .pbr ≡ 0) (held : r .held ≡ true) (start : r .tcu ≡ 0) (close : near r m ≡ true) where
     banks : (there r m (up (r .pc) 1) ≡ 0) × (there r m (up (r .pc) 2) ≡ 0)
     banks = (
@@ -370,13 +411,13 @@ module _ (r : Record) (m : List ℕ) (whole : length m ≡ size) (well : wellFor
       eqb-true _ _ (and-right (eqb (there r m (up (r .pc) 1)) 0) (eqb (there r m (up (r .pc) 2)) 0) close),
     )
 
-    byte-of : (o : Operation) → decodeOf (r .ir) ≡ Listed Move o → Passes 7 r m (hauled (flagIn o) r) (carried r m)
+    byte-of : (o : Operation) → decodeOf (r .ir) ≡ Listed Move o → Leaves 7 r m (hauled (flagIn o) r) (carried r m) (byteLines (carried r m))
     byte-of o d =
-        move-passes r m whole bank small o x-small y-small banks (wideOf o (r .flags .memsel) (r .flags .indexsel)) (unaligned (r .d)) (r .flags .emulation)
+        move-leaves r m whole bank small o x-small y-small banks (wideOf o (r .flags .memsel) (r .flags .indexsel)) (unaligned (r .d)) (r .flags .emulation)
         (between-bytes r _ o well held start d small)
 
     -- 54 goes up, 44 down
-    by-code : (a c : Bool) → eqb (r .ir) 0x54 ≡ a → eqb (r .ir) 0x44 ≡ c → (a || c) ≡ true → Passes 7 r m (hauled a r) (carried r m)
+    by-code : (a c : Bool) → eqb (r .ir) 0x54 ≡ a → eqb (r .ir) 0x44 ≡ c → (a || c) ≡ true → Leaves 7 r m (hauled a r) (carried r m) (byteLines (carried r m))
     unfolding decodeOf opcodes oneBytes
     by-code true c i j e = byte-of (operation.Flag true) (rw (eqb-true (r .ir) 0x54 i))
     by-code false true i j e = byte-of (operation.Flag false) (rw (eqb-true (r .ir) 0x44 j))
@@ -385,20 +426,20 @@ module _ (r : Record) (m : List ℕ) (whole : length m ≡ size) (well : wellFor
   abbrev taken : Bool → Stretch
   taken z = pick z (stretch 7 (hauled (eqb (r .ir) 0x54) r)) (stretch 0 r)
 
-  haul-by : (z : Bool) → hauls r m ≡ z → Goes r m (taken z) (pick z (carried r m) m) × (taken z .cycles < 8)
-  haul-by false e = ((passes-none r m, well), omega arith)
+  abbrev Hauled : Stretch → List ℕ → Type 0
+  Hauled t k = Goes r m t k × (t .cycles < 8) × ((t .cycles ≡ 0 → ⊥) → runOf (t .cycles) r m .lines ≡ byteLines k)
+
+  haul-by : (z : Bool) → hauls r m ≡ z → Hauled (taken z) (pick z (carried r m) m)
+  haul-by false e = ((passes-none r m, well), omega arith, λ n. absurd (n refl))
   haul-by true e =
       let b : between r ≡ true = and-left (between r) (near r m) e in
       let h : (eqb (r .pbr) 0 && r .held) ≡ true = and-left (eqb (r .pbr) 0 && r .held) (isMove (r .ir) && eqb (r .tcu) 0) b in
-      let v : (isMove (r .ir) && eqb (r .tcu) 0) ≡ true = and-right (eqb (r .pbr) 0 && r .held) (isMove (r .ir) && eqb (r .tcu) 0) b in (
-        (
-          by-code (eqb-true _ _ (and-left (eqb (r .pbr) 0) (r .held) h)) (and-right (eqb (r .pbr) 0) (r .held) h)
-              (eqb-true _ _ (and-right (isMove (r .ir)) (eqb (r .tcu) 0) v)) (and-right (between r) (near r m) e)
-              (eqb (r .ir) 0x54) (eqb (r .ir) 0x44) refl refl (and-left (isMove (r .ir)) (eqb (r .tcu) 0) v),
-          well-ended _ _ _ _ _ _ _,
-        ),
-        omega arith,
-      )
+      let v : (isMove (r .ir) && eqb (r .tcu) 0) ≡ true = and-right (eqb (r .pbr) 0 && r .held) (isMove (r .ir) && eqb (r .tcu) 0) b in
+      let l : Leaves 7 r m (hauled (eqb (r .ir) 0x54) r) (carried r m) (byteLines (carried r m)) =
+      by-code (eqb-true _ _ (and-left (eqb (r .pbr) 0) (r .held) h)) (and-right (eqb (r .pbr) 0) (r .held) h)
+      (eqb-true _ _ (and-right (isMove (r .ir)) (eqb (r .tcu) 0) v)) (and-right (between r) (near r m) e)
+      (eqb (r .ir) 0x54) (eqb (r .ir) 0x44) refl refl (and-left (isMove (r .ir)) (eqb (r .tcu) 0) v) in
+      ((l .passes, well-ended _ _ _ _ _ _ _), omega arith, λ _. l .lines)
 
   haul-is : haulOf r m ≡ taken (hauls r m)
   unfolding haulOf
@@ -408,7 +449,7 @@ module _ (r : Record) (m : List ℕ) (whole : length m ≡ size) (well : wellFor
   unfolding haulMem
   after-is = rw (eq-eqb _ _ whole)
 
-  pub haul-goes : (t : Stretch) (k : List ℕ) → (t ≡ haulOf r m) × (k ≡ haulMem r m) → Goes r m t k × (t .cycles < 8)
+  pub haul-goes : (t : Stretch) (k : List ℕ) → (t ≡ haulOf r m) × (k ≡ haulMem r m) → Hauled t k
   haul-goes t k e =
-      subst (λ (v : Stretch). Goes r m v k × (v .cycles < 8)) (sym (e .0 ∙ haul-is))
-      (subst (λ (w : List ℕ). Goes r m (taken (hauls r m)) w × (taken (hauls r m) .cycles < 8)) (sym (e .1 ∙ after-is)) (haul-by (hauls r m) refl))
+      subst (λ (v : Stretch). Hauled v k) (sym (e .0 ∙ haul-is))
+      (subst (Hauled (taken (hauls r m))) (sym (e .1 ∙ after-is)) (haul-by (hauls r m) refl))

@@ -1,22 +1,19 @@
 -- Two runs in a row are one run of both budgets, where the first isn't refused.
 use Prim.Native.Nat.{ℕ, zero, suc, _+_, _≤_}
-use mathlib.Core.Path.{_≡_, refl, ap, sym, _∙_, subst}
+use mathlib.Core.Path.{_≡_, refl, ap, _∙_}
 use mathlib.Core.Bool.{Bool, true, false}
-use mathlib.Core.List.{List, [], _∷_, _++_}
+use mathlib.Core.List.{List}
 use native.Mathlib.Omega.{arith}
 use native.Mathlib.Nat.{zero-add, suc-add}
 use lib.Dec.{leb, eqb}
 use lib.ListN.{length}
 use borrow.Author.Tests.{eqb-true, eqb-false, leb-true, leb-false}
-use Rattle.words.specs.Words.{pick}
-use Rattle.cpu.specs.Record.{numberOf}
 use Rattle.cpu.specs.declared.types.Record.{Record}
-use Rattle.cpu.specs.declared.types.Refusal.{Refusal}
 use Rattle.cpu.specs.declared.types.Refusal.the-variants.{Memory, Budget}
 use Rattle.memory.specs.Turns.{cycleOf, storeLine}
 use Rattle.memory.specs.declared.types.Turn.{Turn}
 use Rattle.memory.specs.declared.types.Turn.the-variants.{Done, Stop}
-use Rattle.run.specs.Runs.{End, more, ends, joined, runOf, wholeRun, size, most}
+use Rattle.run.specs.Runs.{more, joined, runOf, wholeRun, size, most}
 use Rattle.run.proofs.Laws.{run-done, run-stop, run-none, refused-1, refused-2, accepted}
 use Rattle.run.proofs.Counted.{refusal-numbered, run-size}
 

@@ -20,13 +20,17 @@ use Rattle.memory.specs.declared.types.Turn.the-variants.{Done, Stop}
 use Rattle.sheet.specs.Run.{Ran, only, also, after, later, atBoundary, run}
 use Rattle.sheet.proofs.Walk.{false-true}
 use Rattle.run.specs.Runs.{End, more, joined, runOf, size}
-use Rattle.run.specs.Passes.{Passes}
-use Rattle.run.proofs.Laws.{run-done, run-none}
+use Rattle.run.specs.Passes.{Passes, Leaves}
+use Rattle.run.proofs.Laws.{run-done}
 use Rattle.run.proofs.TwoRuns.{cut}
 
 pub passes-none : (r : Record) (m : List ℕ) → Passes 0 r m r m
 unfolding runOf
 passes-none r m = record { number = refl; rec = refl; mem = refl; count = refl }
+
+leaves-none : (r : Record) (m : List ℕ) → Leaves 0 r m r m []
+unfolding runOf
+leaves-none r m = record { passes = passes-none r m; lines = refl }
 
 pub passes-both : (a b : ℕ) (r s u : Record) (m k l : List ℕ) → Passes a r m s k → Passes b s k u l → Passes (a + b) r m u l
 passes-both a b r s u m k l x y =
@@ -53,6 +57,10 @@ abbrev pub storesAll : List ℕ → List Request → List ℕ
 storesAll m [] = m
 storesAll m (q ∷ qs) = storesAll (stores m q) qs
 
+abbrev pub linesAll : List ℕ → List Request → List Request
+linesAll m [] = []
+linesAll m (q ∷ qs) = crossed q (busByte q m) ∷ linesAll (stores m q) qs
+
 -- ---- a cycle inside the memory
 stored-size : (w : Bool) (m : List ℕ) (i v : ℕ) → length (pick w (lib.ListN.set m i v) m) ≡ length m
 stored-size true m i v = length-set m i v
@@ -68,14 +76,18 @@ module _ (m : List ℕ) (whole : length m ≡ size) (r s : Record) (q : Request)
       (lt-leb (length m) (q .addr) (rw whole inside))
       ∙ ap (answered (crossed q (busByte q m))) goes
 
-  passes-cycle : (n : ℕ) (u : Record) (k : List ℕ) → Passes n s (stores m q) u k → Passes (suc n) r m u k
-  passes-cycle n u k x =
+  leaves-cycle : (n : ℕ) (u : Record) (k : List ℕ) (ls : List Request) → Leaves n s (stores m q) u k ls
+      → Leaves (suc n) r m u k (crossed q (busByte q m) ∷ ls)
+  leaves-cycle n u k ls x =
       let e : runOf (suc n) r m ≡ more (crossed q (busByte q m)) (runOf n s (stores m q)) = run-done n r s m _ cycle-done in
       record {
-        number = ap (λ (v : End). v .number) e ∙ x .number;
-        rec = ap (λ (v : End). v .rec) e ∙ x .rec;
-        mem = ap (λ (v : End). v .mem) e ∙ x .mem;
-        count = ap (λ (v : End). length (v .lines)) e ∙ ap suc (x .count);
+        passes = record {
+          number = ap (λ (v : End). v .number) e ∙ x .passes .number;
+          rec = ap (λ (v : End). v .rec) e ∙ x .passes .rec;
+          mem = ap (λ (v : End). v .mem) e ∙ x .passes .mem;
+          count = ap (λ (v : End). length (v .lines)) e ∙ ap suc (x .passes .count);
+        };
+        lines = ap (λ (v : End). v .lines) e ∙ ap (λ (v : List Request). crossed q (busByte q m) ∷ v) (x .lines);
       }
 
 -- ---- up to the instruction's end
@@ -98,31 +110,31 @@ same-record r s e = ap (left s) e
 -- what the law says of n cycles
 abbrev Law : ℕ → (ℕ → ℕ) → Type 0
 Law n b = (m : List ℕ) → length m ≡ size → (r u : Record) → run n b r .out ≡ Next u → Answers m b (run n b r .requests)
-    → Passes (length (run n b r .requests)) r m u (storesAll m (run n b r .requests))
+    → Leaves (length (run n b r .requests)) r m u (storesAll m (run n b r .requests)) (linesAll m (run n b r .requests))
 
 module _ (n : ℕ) (b : ℕ → ℕ) (go : Law n (later b)) (m : List ℕ) (whole : length m ≡ size) (r u : Record) where
   -- by whether the instruction ends with this cycle
-  passes-pick : (s : Record) (q : Request) (e : Bool) → requestOf r ≡ Ask q → answerOf r (b 0) ≡ Next s
+  leaves-pick : (s : Record) (q : Request) (e : Bool) → requestOf r ≡ Ask q → answerOf r (b 0) ≡ Next s
       → let v : Ran = pick e (only q (Next s)) (also q (run n (later b) s)) in
-      v .out ≡ Next u → Answers m b (v .requests) → Passes (length (v .requests)) r m u (storesAll m (v .requests))
-  passes-pick s q true asks goes out x =
-      passes-cycle m whole r s q asks (ap (answerOf r) (sym (x .1)) ∙ goes) (x .0) 0 u (stores m q)
-      (subst (λ (v : Record). Passes 0 s (stores m q) v (stores m q)) (same-record s u out) (passes-none s (stores m q)))
-  passes-pick s q false asks goes out x =
-      passes-cycle m whole r s q asks (ap (answerOf r) (sym (x .1)) ∙ goes) (x .0) _ u _
+      v .out ≡ Next u → Answers m b (v .requests) → Leaves (length (v .requests)) r m u (storesAll m (v .requests)) (linesAll m (v .requests))
+  leaves-pick s q true asks goes out x =
+      leaves-cycle m whole r s q asks (ap (answerOf r) (sym (x .1)) ∙ goes) (x .0) 0 u (stores m q) []
+      (subst (λ (v : Record). Leaves 0 s (stores m q) v (stores m q) []) (same-record s u out) (leaves-none s (stores m q)))
+  leaves-pick s q false asks goes out x =
+      leaves-cycle m whole r s q asks (ap (answerOf r) (sym (x .1)) ∙ goes) (x .0) _ u _ _
       (go (stores m q) (stored-size (q .write) m (q .addr) (busByte q m) ∙ whole) s u out (x .2))
 
   -- by what is asked and answered
-  passes-after : (q : Asked) (a : Answer) → requestOf r ≡ q → answerOf r (b 0) ≡ a
+  leaves-after : (q : Asked) (a : Answer) → requestOf r ≡ q → answerOf r (b 0) ≡ a
       → let v : Ran = after q a (run n (later b)) in
-      v .out ≡ Next u → Answers m b (v .requests) → Passes (length (v .requests)) r m u (storesAll m (v .requests))
+      v .out ≡ Next u → Answers m b (v .requests) → Leaves (length (v .requests)) r m u (storesAll m (v .requests)) (linesAll m (v .requests))
   unfolding accepts
-  passes-after (No k) a asks goes out x = absurd (not-refused u (Refused k) refl out)
-  passes-after (Ask q) (Refused k) asks goes out x = absurd (not-refused u (Refused k) refl out)
-  passes-after (Ask q) (Next s) asks goes out x = passes-pick s q (atBoundary s) asks goes out x
+  leaves-after (No k) a asks goes out x = absurd (not-refused u (Refused k) refl out)
+  leaves-after (Ask q) (Refused k) asks goes out x = absurd (not-refused u (Refused k) refl out)
+  leaves-after (Ask q) (Next s) asks goes out x = leaves-pick s q (atBoundary s) asks goes out x
 
 -- What cycle after cycle answers is what the run over the memory does.
-pub passes-run : (n : ℕ) (b : ℕ → ℕ) → Law n b
+pub leaves-run : (n : ℕ) (b : ℕ → ℕ) → Law n b
 unfolding run
-passes-run zero b m whole r u out x = subst (λ (v : Record). Passes 0 r m v m) (same-record r u out) (passes-none r m)
-passes-run (suc n) b m whole r u out x = passes-after n b (passes-run n (later b)) m whole r u (requestOf r) (answerOf r (b 0)) refl refl out x
+leaves-run zero b m whole r u out x = subst (λ (v : Record). Leaves 0 r m v m []) (same-record r u out) (leaves-none r m)
+leaves-run (suc n) b m whole r u out x = leaves-after n b (leaves-run n (later b)) m whole r u (requestOf r) (answerOf r (b 0)) refl refl out x

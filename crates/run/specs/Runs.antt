@@ -8,10 +8,8 @@ use Rattle.words.specs.Words.{pick}
 use Rattle.cpu.specs.Record.{numberOf}
 use Rattle.cpu.specs.declared.types.Record.{Record}
 use Rattle.cpu.specs.declared.types.Request.{Request}
-use Rattle.cpu.specs.declared.types.Refusal.{Refusal}
 use Rattle.cpu.specs.declared.types.Refusal.the-variants.{Memory, Budget, Malformed}
 use Rattle.memory.specs.Turns.{cycleOf, storeLine}
-use Rattle.memory.specs.declared.types.Turn.{Turn}
 use Rattle.memory.specs.declared.types.Turn.the-variants.{Done, Stop}
 use Rattle.run.specs.declared.types.Outcome.{Outcome}
 

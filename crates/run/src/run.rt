@@ -10,14 +10,15 @@ ghost use Rattle.run.specs.Passes.{Goes};
 use crate::types::Outcome;
 use cpu::record::well_formed;
 use cpu::types::Record;
+use haul::haul;
 use memory::turn::refused_by;
 use memory::turn::turn;
 use memory::types::Turn;
 use step::well_micro;
-use stride::stride::haul;
+use stride::stride::cleared;
+use stride::stride::is_fresh;
 use stride::stride::stride;
 use stride::types::Stretch;
-use words::both;
 
 fn ended(refusal: u8, cycles: u32, after: Record) -> Outcome
     ensures { λ o. ⌜ o ≡ outcome refusal cycles after ⌝ }
@@ -35,31 +36,6 @@ fn stretch_of(cycles: u32, after: Record) -> Stretch
     Stretch {
         cycles: cycles,
         after: after,
-    }
-}
-
-// What a fresh record is anyway: said once, it needn't be carried from turn to turn.
-fn cleared(r: Record) -> Record
-    requires { ⌜ (wellFormed r ≡ true) × (fresh r ≡ true) ⌝ }
-    ensures { λ n. ⌜ n ≡ r ⌝ }
-{
-    let f = r.flags;
-    Record {
-        a: r.a,
-        x: r.x,
-        y: r.y,
-        s: r.s,
-        d: r.d,
-        pc: r.pc,
-        pbr: 0,
-        dbr: r.dbr,
-        flags: f,
-        held: false,
-        ir: 0,
-        tcu: 0,
-        tempaddr: 0,
-        tempdata: 0,
-        tempbank: 0,
     }
 }
 
@@ -99,12 +75,6 @@ fn hauls(r: Record, mem: &mut [u8], budget: u32) -> Stretch
         left -= t.cycles;
     }
     stretch_of(budget - left, at)
-}
-
-fn is_fresh(r: Record) -> bool
-    ensures { λ t. ⌜ t ≡ fresh r ⌝ }
-{
-    both(both(r.pbr == 0, !r.held), both(r.ir == 0, r.tcu == 0))
 }
 
 // Whole instructions, or bytes of a move, as far as they go.

@@ -1,21 +1,18 @@
--- Whole instructions at a time: what a quick one comes to over a memory of 65,536 bytes, from a record in bank 0 at an instruction's start, and
--- a byte of a move that is under way. Laws beside the proofs say that its cycles come to the same, one after the other.
+-- Whole instructions at a time: what a quick one comes to over a memory of 65,536 bytes, from a record in bank 0 at an instruction's start. Laws beside the proofs say that its cycles come to the same, one after the other.
 use Prim.Native.Nat.{ℕ, _+_}
 use mathlib.Core.Bool.{Bool, true, false, not, _&&_}
 use mathlib.Core.List.{List}
 use lib.Dec.{eqb, ltb}
 use lib.ListN.{length, getD, set}
-use Rattle.words.specs.Words.{pick, bit, lowOf, highOf, word, inc, dec, up, sum16, displaced, samePage}
+use Rattle.words.specs.Words.{pick, bit, lowOf, highOf, word, inc, up, sum16, displaced, samePage}
 use Rattle.alu.specs.declared.types.Alu.{Alu}
-use Rattle.cpu.specs.Registers.{applied, stackOf, moves, wideReg}
-use Rattle.cpu.specs.Record.{isMove, regsOf, ended, sourceOf, wideSource, holds}
+use Rattle.cpu.specs.Registers.{applied, stackOf, wideReg}
+use Rattle.cpu.specs.Record.{regsOf, ended, sourceOf, wideSource}
 use Rattle.cpu.specs.declared.types.Record.{Record}
 use Rattle.cpu.specs.declared.types.Regs.{Regs}
 use Rattle.cpu.specs.declared.types.Reg.{Reg}
-use Rattle.cpu.specs.declared.types.Source.{Source}
-use Rattle.cpu.specs.declared.types.Cond.{Cond}
 use Rattle.brisk.specs.Brisk.{effected}
-use Rattle.quick.specs.Quick.{quickOf}
+use Rattle.quick.specs.Quick.{quickOf, goes}
 use Rattle.quick.specs.declared.types.Mode.{Mode}
 use Rattle.quick.specs.declared.types.Mode.the-variants.{Immediate, Direct, Absolute}
 use Rattle.quick.specs.declared.types.Quick.{Quick}
@@ -28,6 +25,27 @@ use Rattle.stride.specs.declared.types.Stretch.{Stretch}
 -- where whole instructions start: in bank 0, nothing held and nothing left of what was
 abbrev pub fresh : Record → Bool
 fresh r = (eqb (r .pbr) 0 && not (r .held)) && (eqb (r .ir) 0 && eqb (r .tcu) 0)
+
+-- what such a record has anyway: nothing held, no scratch words, bank 0
+abbrev pub clearedOf : Record → Record
+clearedOf r =
+    record {
+      a = r .a;
+      x = r .x;
+      y = r .y;
+      s = r .s;
+      d = r .d;
+      pc = r .pc;
+      pbr = 0;
+      dbr = r .dbr;
+      flags = r .flags;
+      held = false;
+      ir = 0;
+      tcu = 0;
+      tempaddr = 0;
+      tempdata = 0;
+      tempbank = 0;
+    }
 
 abbrev pub spot : (place cycles pc : ℕ) → Spot
 spot p n q = record { place = p; cycles = n; pc = q }
@@ -73,18 +91,18 @@ module _ (r : Record) (m : List ℕ) where
   abbrev pub storing : Spot → Leg
   storing t = kept (t .cycles) (t .pc) r
 
-  abbrev pub branching : Cond → Leg
-  branching c =
+  abbrev pub branching : (taken : Bool) → Leg
+  branching taken =
       let past : ℕ = up (r .pc) 2 in
       let to : ℕ = displaced past (lowOf (there (up (r .pc) 1))) in
-      kept (pick (holds c (r .flags)) (3 + bit (r .flags .emulation && not (samePage past to))) 2) (pick (holds c (r .flags)) to past) r
+      kept (pick taken (3 + bit (r .flags .emulation && not (samePage past to))) 2) (pick taken to past) r
 
   abbrev pub legBy : Quick → Leg
   legBy Slow = kept 0 (r .pc) r
   legBy (Read mode k g) = let w : Bool = wideReg g (r .flags .memsel) (r .flags .indexsel) in reading (spotOf mode w) k g w
   legBy (Store mode o) = storing (spotOf mode (wideSource o (r .flags .memsel) (r .flags .indexsel)))
   legBy (Do k) = leg 2 (up (r .pc) 1) (stackOf k (r .s) (regsOf r)) (r .dbr) (applied k (r .s) (regsOf r))
-  legBy (If c) = branching c
+  legBy (If k want) = branching (goes k want (r .flags))
   legBy Jump = kept 3 operand r
   legBy (Move ups) = kept 0 (r .pc) r
 
@@ -99,7 +117,7 @@ module _ (r : Record) (m : List ℕ) where
       let w : Bool = wideSource o (r .flags .memsel) (r .flags .indexsel) in
       pick (eqb (spotOf mode w .cycles) 0) m (placed w (spotOf mode w .place) (sourceOf o (regsOf r) (r .pbr) (r .dbr)) m)
   memBy (Do k) = m
-  memBy (If c) = m
+  memBy (If k want) = m
   memBy Jump = m
   memBy (Move ups) = m
 
@@ -114,22 +132,7 @@ arrived ir l = ended ir false 0 (l .pc) (l .s) (l .dbr) (l .regs)
 abbrev pub stretch : (cycles : ℕ) → Record → Stretch
 stretch n r = record { cycles = n; after = r }
 
--- ---- a byte of a move that is under way in bank 0, both of its banks 0
-abbrev pub between : Record → Bool
-between r = (eqb (r .pbr) 0 && r .held) && (isMove (r .ir) && eqb (r .tcu) 0)
-
-abbrev pub near : Record → List ℕ → Bool
-near r m = eqb (getD m (up (r .pc) 1) 0) 0 && eqb (getD m (up (r .pc) 2) 0) 0
-
-abbrev pub hauled : (ups : Bool) → Record → Record
-hauled ups r =
-    let last : Bool = eqb (dec (r .a)) 0xFFFF in
-    ended (r .ir) (not last) 0 (pick last (up (r .pc) 3) (r .pc)) (r .s) 0 (moves ups (regsOf r))
-
-abbrev pub carried : Record → List ℕ → List ℕ
-carried r m = set m (r .y) (lowOf (getD m (r .x) 0))
-
--- ---- what the two entries answer; without a memory of 65,536 bytes nothing is done
+-- ---- what the entry answers; without a memory of 65,536 bytes nothing is done
 abbrev pub whole : List ℕ → Bool
 whole m = eqb (length m) 65536
 
@@ -141,12 +144,3 @@ strideOf r m = pick (whole m) (strodeBy r (opcode r m) (legOf r m)) (stretch 0 r
 
 unfoldable pub strideMem : Record → List ℕ → List ℕ
 strideMem r m = pick (whole m) (memOf r m) m
-
-abbrev pub hauls : Record → List ℕ → Bool
-hauls r m = between r && near r m
-
-unfoldable pub haulOf : Record → List ℕ → Stretch
-haulOf r m = pick (whole m) (pick (hauls r m) (stretch 7 (hauled (eqb (r .ir) 0x54) r)) (stretch 0 r)) (stretch 0 r)
-
-unfoldable pub haulMem : Record → List ℕ → List ℕ
-haulMem r m = pick (whole m) (pick (hauls r m) (carried r m) m) m

@@ -3,47 +3,69 @@ ghost use mathlib.Core.Path.{_≡_};
 ghost use mathlib.Core.Bool.{_&&_};
 ghost use Prim.Native.Nat.{_+_, _<_};
 ghost use lib.Dec.{eqb, ltb};
-ghost use lib.ListN.{length, getD, set};
-ghost use Rattle.words.specs.Words.{pick, bit, word, lowOf, inc, sum16};
+ghost use lib.ListN.{length, getD};
+ghost use Rattle.words.specs.Words.{pick, bit, word, inc, sum16};
 ghost use Rattle.cpu.specs.Registers.{applied, stackOf};
-ghost use Rattle.cpu.specs.Record.{regsOf};
+ghost use Rattle.cpu.specs.Record.{regsOf, same};
 ghost use Rattle.cycles.specs.Cycles.{unaligned};
+ghost use Rattle.quick.specs.Quick.{goes};
 ghost use Rattle.quick.specs.declared.types.Quick.the-variants.{Read, Store, If, Jump};
-ghost use Rattle.stride.specs.Strides.{spot, leg, kept, placed, opcode, spotOf, legBy, memBy, legOf, memOf, arrived, stretch, strodeBy, strideOf, strideMem, near, between, hauled, carried, hauls, haulOf, haulMem};
+ghost use Rattle.stride.specs.Strides.{fresh, clearedOf, spot, leg, kept, placed, opcode, spotOf, legBy, memBy, legOf, memOf, arrived, stretch, strodeBy, strideOf, strideMem};
 use crate::types::Leg;
 use crate::types::Spot;
 use crate::types::Stretch;
 use alu::types::Alu;
 use brisk::regs::applied;
 use brisk::regs::worked;
-use cpu::change::moved;
 use cpu::change::stack_of;
 use cpu::record::finished;
 use cpu::record::is_wide_source;
-use cpu::record::regs;
 use cpu::record::source;
-use cpu::record::taken;
 use cpu::registers::choose;
 use cpu::registers::is_wide;
-use cpu::types::Cond;
 use cpu::types::One;
 use cpu::types::Record;
 use cpu::types::Reg;
+use cpu::types::Regs;
 use cpu::types::Source;
+use flags::Flags;
 use quick::quick;
 use quick::types::Mode;
 use quick::types::Quick;
+use quick::types::Test;
 use words::add;
 use words::add_signed;
 use words::both;
-use words::down;
-use words::either;
 use words::high;
 use words::join;
 use words::low;
 use words::one_if;
 use words::same_page;
 use words::up;
+
+// The registers, flag by flag: a copy of all nine at once makes a processor wait for those that were written one by one.
+fn regs(r: Record) -> Regs
+    ensures { λ t. ⌜ t ≡ regsOf r ⌝ }
+{
+    let f = r.flags;
+    Regs {
+        a: r.a,
+        x: r.x,
+        y: r.y,
+        d: r.d,
+        flags: Flags {
+            carry: f.carry,
+            zero: f.zero,
+            interruptdisable: f.interruptdisable,
+            decimal: f.decimal,
+            indexsel: f.indexsel,
+            memsel: f.memsel,
+            overflow: f.overflow,
+            negative: f.negative,
+            emulation: f.emulation,
+        },
+    }
+}
 
 fn peek(mem: &[u8], p: u16) -> u8
     requires { ⌜ length (now mem) ≡ 65536 ⌝ }
@@ -207,14 +229,33 @@ fn branch_cycles(go: bool, page: bool) -> u8
     if go { 3 + one_if(page) } else { 2 }
 }
 
-fn branch(k: Cond, r: Record, mem: &[u8]) -> Leg
+// Whether a flag is what a branch wants.
+fn is_so(want: bool, flag: bool) -> bool
+    ensures { λ t. ⌜ t ≡ same want flag ⌝ }
+{
+    if want { flag } else { !flag }
+}
+
+fn is_taken(k: Test, want: bool, f: Flags) -> bool
+    ensures { λ t. ⌜ t ≡ goes k want f ⌝ }
+{
+    match k {
+        Test::Always => true,
+        Test::Carry => is_so(want, f.carry),
+        Test::Zero => is_so(want, f.zero),
+        Test::Negative => is_so(want, f.negative),
+        Test::Overflow => is_so(want, f.overflow),
+    }
+}
+
+fn branch(k: Test, want: bool, r: Record, mem: &[u8]) -> Leg
     requires { ⌜ length (now mem) ≡ 65536 ⌝ }
-    ensures { λ l. ⌜ l ≡ legBy r (now (mem .entry)) (If k) ⌝ }
+    ensures { λ l. ⌜ l ≡ legBy r (now (mem .entry)) (If k want) ⌝ }
 {
     let f = r.flags;
     let past = up(up(r.pc));
     let to = add_signed(past, peek(mem, up(r.pc)));
-    let go = taken(k, f);
+    let go = is_taken(k, want, f);
     let page = both(f.emulation, !same_page(past, to));
     kept(branch_cycles(go, page), choose(go, to, past), r)
 }
@@ -235,7 +276,7 @@ fn leg_of(q: Quick, r: Record, mem: &mut [u8]) -> Leg
         Quick::Read(mode, k, g) => read(mode, k, g, r, mem),
         Quick::Store(mode, k) => store(mode, k, r, mem),
         Quick::Do(k) => one(k, r),
-        Quick::If(k) => branch(k, r, mem),
+        Quick::If(k, want) => branch(k, want, r, mem),
         Quick::Jump => jump(r, mem),
         Quick::Move(_) => kept(0, r.pc, r),
     }
@@ -267,9 +308,9 @@ fn stretch_of(cycles: u32, after: Record) -> Stretch
     }
 }
 
-// PC, X and Y lie inside the memory: so much is known of words that are handed over, and the law asks for it.
-fn words_inside(pc: u16, x: u16, y: u16)
-    ensures { λ _. ⌜ (pc < 65536) × (x < 65536) × (y < 65536) ⌝ }
+// PC lies inside the memory: so much is known of a word that is handed over, and the law asks for it.
+fn word_inside(pc: u16)
+    ensures { λ _. ⌜ pc < 65536 ⌝ }
 {}
 
 // An instruction of a memory that is whole.
@@ -282,89 +323,45 @@ fn stride_in(r: Record, mem: &mut [u8]) -> Stretch
     arrive(op, r, l)
 }
 
+// Whether whole instructions can start here.
+pub fn is_fresh(r: Record) -> bool
+    ensures { λ t. ⌜ t ≡ fresh r ⌝ }
+{
+    both(both(r.pbr == 0, !r.held), both(r.ir == 0, r.tcu == 0))
+}
+
+// What a fresh record is anyway: said once, it needn't be carried from turn to turn.
+pub fn cleared(r: Record) -> Record
+    ensures { λ n. ⌜ n ≡ clearedOf r ⌝ }
+{
+    let f = r.flags;
+    Record {
+        a: r.a,
+        x: r.x,
+        y: r.y,
+        s: r.s,
+        d: r.d,
+        pc: r.pc,
+        pbr: 0,
+        dbr: r.dbr,
+        flags: f,
+        held: false,
+        ir: 0,
+        tcu: 0,
+        tempaddr: 0,
+        tempdata: 0,
+        tempbank: 0,
+    }
+}
+
 // An instruction from a fresh record; none where it has to be done cycle by cycle.
 pub fn stride(r: Record, mem: &mut [u8]) -> Stretch
     ensures { λ t. ⌜ (t ≡ strideOf r (now (mem .entry))) × (now (mem .exit) ≡ strideMem r (now (mem .entry))) ⌝ }
-    ensures inside { λ _. ⌜ (r .pc < 65536) × (r .x < 65536) × (r .y < 65536) ⌝ }
+    ensures inside { λ _. ⌜ r .pc < 65536 ⌝ }
 {
-    words_inside(r.pc, r.x, r.y);
+    word_inside(r.pc);
     if mem.len() == 65536 {
         stride_in(r, mem)
-    } else {
-        stretch_of(0, r)
-    }
-}
-
-// Whether a move stays in bank 0.
-fn is_near(r: Record, mem: &[u8]) -> bool
-    requires { ⌜ length (now mem) ≡ 65536 ⌝ }
-    ensures { λ t. ⌜ t ≡ near r (now (mem .entry)) ⌝ }
-{
-    both(peek(mem, up(r.pc)) == 0, peek(mem, up(up(r.pc))) == 0)
-}
-
-fn carry_if(near: bool, x: u16, y: u16, mem: &mut [u8])
-    requires { ⌜ length (now mem) ≡ 65536 ⌝ }
-    ensures { λ _. ⌜ now (mem .exit) ≡ pick near (set (now (mem .entry)) y (lowOf (getD (now (mem .entry)) x 0))) (now (mem .entry)) ⌝ }
-{
-    if near {
-        let b = peek(mem, x);
-        mem[y as usize] = b;
-    }
-}
-
-fn is_between(r: Record) -> bool
-    ensures { λ t. ⌜ t ≡ between r ⌝ }
-{
-    both(
-        both(r.pbr == 0, r.held),
-        both(either(r.ir == 0x54, r.ir == 0x44), r.tcu == 0),
-    )
-}
-
-fn hauled_to(r: Record) -> Record
-    ensures { λ n. ⌜ n ≡ hauled (eqb (r .ir) 0x54) r ⌝ }
-{
-    let last = down(r.a) == 0xFFFF;
-    let g = moved(r.ir == 0x54, regs(r));
-    finished(
-        r.ir,
-        !last,
-        0,
-        choose(last, up(up(up(r.pc))), r.pc),
-        r.s,
-        0,
-        g,
-    )
-}
-
-fn haul_to(go: bool, r: Record) -> Stretch
-    ensures { λ t. ⌜ t ≡ pick go (stretch 7 (hauled (eqb (r .ir) 0x54) r)) (stretch 0 r) ⌝ }
-{
-    if go {
-        stretch_of(7, hauled_to(r))
-    } else {
-        stretch_of(0, r)
-    }
-}
-
-fn haul_in(r: Record, mem: &mut [u8]) -> Stretch
-    requires { ⌜ length (now mem) ≡ 65536 ⌝ }
-    ensures { λ t. ⌜ (t ≡ pick (hauls r (now (mem .entry))) (stretch 7 (hauled (eqb (r .ir) 0x54) r)) (stretch 0 r)) × (now (mem .exit) ≡ pick (hauls r (now (mem .entry))) (carried r (now (mem .entry))) (now (mem .entry))) ⌝ }
-{
-    let go = both(is_between(r), is_near(r, mem));
-    carry_if(go, r.x, r.y, mem);
-    haul_to(go, r)
-}
-
-// A byte of a move that is under way; none where there is no such move, or it leaves bank 0.
-pub fn haul(r: Record, mem: &mut [u8]) -> Stretch
-    ensures { λ t. ⌜ (t ≡ haulOf r (now (mem .entry))) × (now (mem .exit) ≡ haulMem r (now (mem .entry))) ⌝ }
-    ensures inside { λ _. ⌜ (r .pc < 65536) × (r .x < 65536) × (r .y < 65536) ⌝ }
-{
-    words_inside(r.pc, r.x, r.y);
-    if mem.len() == 65536 {
-        haul_in(r, mem)
     } else {
         stretch_of(0, r)
     }

@@ -8,7 +8,7 @@ use Rattle.cpu.specs.Record.{wellFormed}
 use Rattle.stride.specs.Strides.{fresh}
 use Rattle.run.specs.Passes.{Passes}
 use Rattle.run.proofs.ByOpcode.{stride-goes}
-use Rattle.run.proofs.Stretches.{no-stride, strode, stopped, walked, from-same}
+use Rattle.run.proofs.Stretches.{no-stride, strode, stopped, walked, from-same, cleared-is}
 use Rattle.run.proofs.run.strides.Statement.{statement}
 use Rattle.run.proofs.run.strides.Tie as tie
 
@@ -21,12 +21,12 @@ abbrev μ-loop : tie.MeasureT-loop
 μ-loop mem₀ budget at₀ left₀ mem at left = left
 
 cleared-requires : tie.Need-cleared-requires Inv-loop μ-loop
-cleared-requires c κs = let h = c .before .pre in (h .1, h .2)
+cleared-requires c κs = search needs
 
 loop-holds : tie.Need-loop-holds Inv-loop μ-loop
 loop-holds c =
     let h = c .before .before .pre in
-    let e = c .cleared .ensures in
+    let e = c .cleared .ensures ∙ cleared-is _ (h .1) (h .2) in
     (omega arith, h .3, refl, ap wellFormed e ∙ h .1, ap fresh e ∙ h .2, no-stride _ _ _)
 
 stride-requires : tie.Need-stride-requires Inv-loop μ-loop
@@ -44,25 +44,25 @@ same-length c = omega (arith, c .before .before .before .before .before .before 
 returns : tie.Need-returns Inv-loop μ-loop
 returns c =
     let i = c .before .before .before .before .before .before .before .before .before .loop .inv in
-    let y = stride-goes _ _ (i .2 ∙ c .before .before .before .before .before .before .before .before .before .before .before .before .pre .0) (i .3) (i .4) (c .before .before .before .before .before .before .stride .ensures .1 .0) _ _ (c .before .before .before .before .before .before .stride .ensures .0) in
-    from-same _ _ _ _ _ _ (c .before .before .before .before .before .before .before .before .before .before .cleared .ensures) (stopped _ _ _ _ _ _ (i .0) (i .1) (i .5) _ _ _ (y .0) (c .before .if1 .taken) (c .stretch-of .ensures))
+    let y = stride-goes _ _ (i .2 ∙ c .before .before .before .before .before .before .before .before .before .before .before .before .pre .0) (i .3) (i .4) (c .before .before .before .before .before .before .stride .ensures .1) _ _ (c .before .before .before .before .before .before .stride .ensures .0) in
+    from-same _ _ _ _ _ _ (c .before .before .before .before .before .before .before .before .before .before .cleared .ensures ∙ cleared-is _ (c .before .before .before .before .before .before .before .before .before .before .before .before .pre .1) (c .before .before .before .before .before .before .before .before .before .before .before .before .pre .2)) (stopped _ _ _ _ _ _ (i .0) (i .1) (i .5) _ _ _ (y .0) (c .before .if1 .taken) (c .stretch-of .ensures))
 
 sub-left : tie.Need-sub-left Inv-loop μ-loop
 sub-left c =
     let i = c .before .before .before .before .before .before .before .before .before .loop .inv in
-    let y = stride-goes _ _ (i .2 ∙ c .before .before .before .before .before .before .before .before .before .before .before .before .pre .0) (i .3) (i .4) (c .before .before .before .before .before .before .stride .ensures .1 .0) _ _ (c .before .before .before .before .before .before .stride .ensures .0) in
+    let y = stride-goes _ _ (i .2 ∙ c .before .before .before .before .before .before .before .before .before .before .before .before .pre .0) (i .3) (i .4) (c .before .before .before .before .before .before .stride .ensures .1) _ _ (c .before .before .before .before .before .before .stride .ensures .0) in
     omega (arith, y .1 .0, c .before .before .before .before .before .before .before .before .loop-test .taken)
 
 loop-less : tie.Need-loop-less Inv-loop μ-loop
 loop-less c =
     let i = c .before .before .before .before .before .before .before .before .before .loop .inv in
-    let y = stride-goes _ _ (i .2 ∙ c .before .before .before .before .before .before .before .before .before .before .before .before .pre .0) (i .3) (i .4) (c .before .before .before .before .before .before .stride .ensures .1 .0) _ _ (c .before .before .before .before .before .before .stride .ensures .0) in
+    let y = stride-goes _ _ (i .2 ∙ c .before .before .before .before .before .before .before .before .before .before .before .before .pre .0) (i .3) (i .4) (c .before .before .before .before .before .before .stride .ensures .1) _ _ (c .before .before .before .before .before .before .stride .ensures .0) in
     omega (arith, y .1 .0, c .before .before .before .before .before .before .before .before .loop-test .taken, c .before .if1 .left)
 
 loop-again : tie.Need-loop-again Inv-loop μ-loop
 loop-again c =
     let i = c .before .before .before .before .before .before .before .before .before .loop .inv in
-    let y = stride-goes _ _ (i .2 ∙ c .before .before .before .before .before .before .before .before .before .before .before .before .pre .0) (i .3) (i .4) (c .before .before .before .before .before .before .stride .ensures .1 .0) _ _ (c .before .before .before .before .before .before .stride .ensures .0) in
+    let y = stride-goes _ _ (i .2 ∙ c .before .before .before .before .before .before .before .before .before .before .before .before .pre .0) (i .3) (i .4) (c .before .before .before .before .before .before .stride .ensures .1) _ _ (c .before .before .before .before .before .before .stride .ensures .0) in
     let s = y .1 .0 in
     let n = c .before .before .before .before .before .before .before .before .loop-test .taken in
     (omega (arith, i .0), omega (arith, s, n), omega (arith, c .before .before .before .before .before .before .stride .kept .1 .0, i .2), y .0 .1, y .1 .1, strode _ _ _ _ _ _ (i .0) (i .1) (i .5) _ _ _ (omega (arith, s, n)) (y .0 .0))
@@ -77,7 +77,7 @@ same-length-2 : tie.Need-same-length-2 Inv-loop μ-loop
 same-length-2 c = omega (arith, c .before .before .loop .inv .2)
 
 returns-2 : tie.Need-returns-2 Inv-loop μ-loop
-returns-2 c = let i = c .before .before .loop .inv in from-same _ _ _ _ _ _ (c .before .before .before .cleared .ensures) (walked _ _ _ _ _ _ (i .0) (i .1) (i .5) _ (i .3) (c .stretch-of2 .ensures))
+returns-2 c = let i = c .before .before .loop .inv in from-same _ _ _ _ _ _ (c .before .before .before .cleared .ensures ∙ cleared-is _ (c .before .before .before .before .before .pre .1) (c .before .before .before .before .before .pre .2)) (walked _ _ _ _ _ _ (i .0) (i .1) (i .5) _ (i .3) (c .stretch-of2 .ensures))
 
 pub strides-spec : {M : Type 1} → statement M
 strides-spec =

@@ -21,8 +21,8 @@ peek-requires c κs = search needs
 add-signed-requires : tie.Need-add-signed-requires
 add-signed-requires c κs = search needs
 
-taken-requires : tie.Need-taken-requires
-taken-requires c κs = search needs
+is-taken-requires : tie.Need-is-taken-requires
+is-taken-requires c κs = search needs
 
 same-page-requires : tie.Need-same-page-requires
 same-page-requires c κs = search needs
@@ -50,7 +50,7 @@ returns c =
       c .before .before .branch-cycles .ensures,
       c .before .before .before .both .ensures,
       c .before .before .before .before .same-page .ensures,
-      c .before .before .before .before .before .taken .ensures,
+      c .before .before .before .before .before .is-taken .ensures,
       c .before .before .before .before .before .before .add-signed .ensures,
       c .before .before .before .before .before .before .before .peek .ensures,
       c .before .before .before .before .before .before .before .before .up3 .ensures,
@@ -67,7 +67,7 @@ branch-spec =
     up-requires-3
     peek-requires
     add-signed-requires
-    taken-requires
+    is-taken-requires
     same-page-requires
     both-requires
     branch-cycles-requires
