@@ -1,7 +1,7 @@
 // The text of a trace, written into a lent buffer: the header, and a line for each completed cycle.
 ghost use mathlib.Core.Path.{_≡_};
 ghost use mathlib.Core.List.{[], _∷_, _++_};
-ghost use Prim.Native.Nat.{_+_, _≤_, _<_};
+ghost use Prim.Native.Nat.{_+_, _*_, _/_, _%_, _≤_, _<_};
 ghost use lib.Dec.{leb};
 ghost use lib.ListN.{length};
 ghost use Rattle.trace.specs.Text.{decimal, hexDigit, hex2, hex6, letter, direction, lineText, header, Put, Wrote};
@@ -10,7 +10,7 @@ use cpu::types::Kind;
 use cpu::types::Request;
 
 // Whether `size` bytes have room at a place of a buffer, be the place beyond its end.
-fn has_room(len: usize, at: usize, size: usize) -> bool
+pub fn has_room(len: usize, at: usize, size: usize) -> bool
     ensures { λ r. ⌜ r ≡ leb (at + size) len ⌝ }
 {
     if len < size {
@@ -221,6 +221,13 @@ fn hex_digit(n: u8) -> u8
         14 => b'E',
         _ => b'F',
     }
+}
+
+// Two hex digits of a byte in a word, the first one low.
+pub fn hex_pair(byte: u8) -> u16
+    ensures { λ r. ⌜ r ≡ hexDigit (byte / 16) + 256 * hexDigit (byte % 16) ⌝ }
+{
+    (hex_digit(byte / 16) as u16) + 256 * (hex_digit(byte % 16) as u16)
 }
 
 fn put_hex2(text: &mut [u8], at: usize, byte: u8) -> usize

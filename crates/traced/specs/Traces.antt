@@ -5,7 +5,6 @@ use mathlib.Core.Path.{_≡_}
 use mathlib.Core.List.{List, [], _++_}
 use lib.Dec.{leb, eqb}
 use lib.ListN.{length}
-use lib.Seq.{sets}
 use Rattle.words.specs.Words.{pick}
 use Rattle.cpu.specs.Record.{numberOf}
 use Rattle.cpu.specs.declared.types.Record.{Record}
@@ -13,6 +12,7 @@ use Rattle.cpu.specs.declared.types.Request.{Request}
 use Rattle.cpu.specs.declared.types.Refusal.the-variants.{Memory, Budget, Room, Malformed}
 use Rattle.trace.specs.Text.{linesText, header, over}
 use Rattle.run.specs.Runs.{End, ends, runOf, size, most}
+use Rattle.trail.specs.declared.types.Told.{Told}
 use Rattle.traced.specs.declared.types.Traced.{Traced}
 
 -- ---- the text of a piece
@@ -70,11 +70,9 @@ pub record Tells (w : Written) (o : Traced) (m t : List ℕ) : Type 0 where
   pub mem : m ≡ w .end .mem
   pub text : t ≡ w .text
 
--- the same of the lines alone, numbered from n on, at place p of the text t
-pub record Listed (e : End) (n p : ℕ) (t : List ℕ) (o : Traced) (m t′ : List ℕ) : Type 0 where
-  pub answer : o ≡ tracedAs (e .number) (length (e .lines)) (p + length (linesText n (e .lines))) (e .rec)
-  pub mem : m ≡ e .mem
-  pub text : t′ ≡ sets t p (linesText n (e .lines))
+-- what a trail tells, whose last place is how many bytes were written
+abbrev pub tracedFrom : Told → Traced
+tracedFrom o = tracedAs (o .refusal) (o .cycles) (o .place) (o .after)
 
 -- a record that isn't well formed, asked for so many cycles
 abbrev pub malformedAt : (written b : ℕ) → Record → Traced

@@ -1,23 +1,18 @@
-// Refusals 1, 2 and 3 once, which change nothing; then the header, and cycle after cycle a line. A trace can be made in pieces: a piece is told
+// Refusals 1, 2 and 3 once, which change nothing; then the header, and a line for each cycle. A trace can be made in pieces: a piece is told
 // how many cycles were done before it, numbers its lines on from there, and writes the header only where none were.
 ghost use mathlib.Core.Path.{_≡_};
-ghost use mathlib.Core.Bool.{true};
-ghost use Prim.Native.Nat.{_+_, _*_, _≤_};
+ghost use Prim.Native.Nat.{_+_, _≤_};
 ghost use lib.Dec.{leb};
 ghost use lib.ListN.{length};
-ghost use Rattle.cpu.specs.Record.{wellFormed};
 ghost use Rattle.trace.specs.Text.{Wrote};
-ghost use Rattle.run.specs.Runs.{runOf, most};
-ghost use Rattle.traced.specs.Traces.{head, roomOf, tracedAs, malformedAt, pieceOf, wholePiece, Listed, Tells};
+ghost use Rattle.run.specs.Runs.{size, most};
+ghost use Rattle.traced.specs.Traces.{head, roomOf, tracedAs, tracedFrom, malformedAt, pieceOf, wholePiece, Tells};
 use crate::types::Traced;
 use cpu::record::well_formed;
 use cpu::types::Record;
-use memory::turn::refused_by;
-use memory::turn::turn;
-use memory::types::Turn;
-use step::well_micro;
 use trace::put_header;
-use trace::put_line;
+use trail::trail::trail;
+use trail::types::Told;
 
 fn ended(refusal: u8, cycles: u32, written: usize, after: Record) -> Traced
     ensures { λ o. ⌜ o ≡ tracedAs refusal cycles written after ⌝ }
@@ -62,32 +57,10 @@ fn put_head(text: &mut [u8], before: u32) -> usize
     0
 }
 
-// The cycles of a piece whose memory, budget, room and record are found good, with their lines from `start` on.
-fn lines(
-    rec: Record,
-    mem: &mut [u8],
-    text: &mut [u8],
-    start: usize,
-    before: u32,
-    budget: u32,
-) -> Traced
-    requires { ⌜ wellFormed rec ≡ true ⌝ }
-    requires { ⌜ (before + budget ≤ most) × (start + 22 * budget ≤ length (now text)) ⌝ }
-    ensures { λ o. ⌜ Listed (runOf budget rec (now (mem .entry))) (before + 1) start (now (text .entry)) o (now (mem .exit)) (now (text .exit)) ⌝ }
+fn as_traced(t: Told) -> Traced
+    ensures { λ o. ⌜ o ≡ tracedFrom t ⌝ }
 {
-    let mut place = start;
-    let mut at = rec;
-    let mut done: u32 = 0;
-    while done < budget {
-        let t = turn(well_micro(at), at, mem);
-        let Turn::Done(line, next) = t else {
-            return ended(refused_by(t), done, place, at);
-        };
-        place = put_line(text, place, before + done + 1, line);
-        at = next;
-        done += 1;
-    }
-    ended(0, done, place, at)
+    ended(t.refusal, t.cycles, t.place, t.after)
 }
 
 // A record that isn't well formed: 4, if a cycle is asked for at all.
@@ -103,13 +76,13 @@ fn unfit(rec: Record, place: usize, budget: u32) -> Traced
 
 // A piece whose memory, budget and room are found good: the header is written whatever comes.
 fn piece(rec: Record, mem: &mut [u8], text: &mut [u8], before: u32, budget: u32) -> Traced
-    requires { ⌜ (before + budget ≤ most) × (roomOf before budget ≤ length (now text)) ⌝ }
+    requires { ⌜ (length (now mem) ≡ size) × (before + budget ≤ most) × (roomOf before budget ≤ length (now text)) ⌝ }
     ensures { λ o. ⌜ Tells (pieceOf before budget rec (now (mem .entry)) (now (text .entry))) o (now (mem .exit)) (now (text .exit)) ⌝ }
 {
     let place = put_head(text, before);
     let well = well_formed(rec);
     if well {
-        lines(rec, mem, text, place, before, budget)
+        as_traced(trail(rec, mem, text, place, before, budget))
     } else {
         unfit(rec, place, budget)
     }

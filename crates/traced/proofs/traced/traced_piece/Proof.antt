@@ -50,7 +50,7 @@ returns-3 c =
 piece-requires : tie.Need-piece-requires
 piece-requires c κs =
     let n = sym (c .before .before .before .before .before .in-budget .ensures) ∙ not-false _ (c .before .before .before .before .if2 .left) in
-    (omega (arith, leb-true, n), omega (arith, c .before .before .if3 .left, c .before .before .before .room .ensures))
+    (omega (arith, c .before .before .before .before .before .before .if1 .left), omega (arith, leb-true, n), omega (arith, c .before .before .if3 .left, c .before .before .before .room .ensures))
 
 same-length : tie.Need-same-length
 same-length c = search needs

@@ -1,0 +1,254 @@
+-- How loops of strides and of bytes of a move, and the loop around them, meet the run and its lines.
+use Prim.Native.Nat.{ℕ, _+_, _*_, _-_, _≤_, _<_}
+use mathlib.Core.Path.{_≡_, refl, sym, _∙_, ap, subst}
+use mathlib.Core.Bool.{true}
+use mathlib.Core.List.{List, [], _++_}
+use native.Mathlib.Omega.{arith}
+use native.Mathlib.Nat.{add-zero, sub-zero}
+use lib.ListN.{length, getD}
+use Rattle.cpu.specs.Record.{wellFormed, numberOf}
+use Rattle.cpu.specs.declared.types.Record.{Record}
+use Rattle.cpu.specs.declared.types.Request.{Request}
+use Rattle.cpu.specs.declared.types.Refusal.{Refusal}
+use Rattle.memory.specs.Turns.{cycleOf, storeOf}
+use Rattle.memory.specs.declared.types.Turn.{Turn}
+use Rattle.memory.specs.declared.types.Turn.the-variants.{Done, Stop}
+use Rattle.trace.specs.Text.{lineText, linesText, Put, Wrote}
+use Rattle.trace.proofs.Laws.{then, lines-append, lines-short, wrote-none, wrote-length, Rest, rest-all, rest-none, rest-line}
+use Rattle.dial.specs.Dial.{dialOf}
+use Rattle.dial.specs.declared.Dial.{Dial}
+use Rattle.run.specs.Runs.{End, ends, runOf, most}
+use Rattle.run.specs.Passes.{Passes}
+use Rattle.run.proofs.Laws.{Left, left-all, left-done, next-done, next-stop, next-none, still-well}
+use Rattle.run.proofs.Counted.{run-size}
+use Rattle.run.proofs.TwoRuns.{cut}
+use Rattle.run.proofs.Whole.{passes-none, passes-both}
+use Rattle.run.proofs.Stretches.{left-ahead}
+use Rattle.trail.specs.Trails.{walk, toldAs, Walked, Listed}
+use Rattle.words.specs.Words.{pick, up}
+use Rattle.cycles.specs.Cycles.{unaligned}
+use Rattle.tracks.specs.Tracks.{trackOf, strideLines, haulLines}
+use Rattle.prints.specs.Prints.{Drawn, printed, turnsOf, ready}
+use Rattle.prints.specs.declared.Mark.{Mark}
+use Rattle.prints.proofs.Laws.{Small, drawn-none, drawn-ready, printed-lines, turns-lines, small-track, small-haul}
+use Rattle.trail.specs.declared.types.Walk.{Walk}
+
+-- ---- stretches
+
+lines-both : (a b : ℕ) (r s : Record) (m k : List ℕ) → Passes a r m s k → runOf (a + b) r m .lines ≡ runOf a r m .lines ++ runOf b s k .lines
+lines-both a b r s m k x =
+    ap (λ (e : End). e .lines) (cut a b r m (x .number))
+    ∙ ap (λ (v : Record). runOf a r m .lines ++ runOf b v (runOf a r m .mem) .lines) (x .rec)
+    ∙ ap (λ (v : List ℕ). runOf a r m .lines ++ runOf b s v .lines) (x .mem)
+
+pub walked-none : (r : Record) (m t : List ℕ) (n p : ℕ) → wellFormed r ≡ true → Walked r m t n p (walk 0 p r) m t
+unfolding runOf linesText
+walked-none r m t n p w = record { passes = passes-none r m; well = w; wrote = wrote-none t p }
+
+-- the place after the lines, 22 bytes for one at most
+pub walked-place : (r : Record) (m t : List ℕ) (n p : ℕ) (w : Walk) (m′ t′ : List ℕ) → n + w .cycles ≤ 10000000 → Walked r m t n p w m′ t′ → w .place ≤ p + 22 * w .cycles
+walked-place r m t n p w m′ t′ h x =
+    omega (arith, x .wrote .place, x .passes .count, lines-short n (runOf (w .cycles) r m .lines) (omega (arith, h, x .passes .count)))
+
+-- a stretch, and c cycles more, whose lines were drawn
+pub walked-more : (r : Record) (m t : List ℕ) (n p a q : ℕ) (at : Record) (m₁ t₁ : List ℕ) (c : ℕ) (s : Record) (m₂ t₂ : List ℕ) (d : Mark) (o : Mark)
+    → Walked r m t n p (walk a q at) m₁ t₁ → Passes c at m₁ s m₂ → wellFormed s ≡ true → d .dial ≡ dialOf (n + a) → d .place ≡ q → n + a + c < 100000000
+    → Small (runOf c at m₁ .lines) → Drawn t₁ t₂ d o (runOf c at m₁ .lines) → Walked r m t n p (walk (a + c) (o .place) s) m₂ t₂
+walked-more r m t n p a q at m₁ t₁ c s m₂ t₂ d o x y w e f h g z =
+    let ls : List Request = runOf c at m₁ .lines in
+    let l : n + a + length ls < 100000000 = omega (arith, h, y .count) in
+    let k : printed (d .dial) ls ≡ linesText (n + a) ls = ap (λ (v : Dial). printed v ls) e ∙ printed-lines (n + a) ls g l in
+    let v : Wrote t₁ t₂ q (o .place) (linesText (n + a) ls) =
+    subst (λ (i : ℕ). Wrote t₁ t₂ i (o .place) (linesText (n + a) ls)) f (subst (Wrote t₁ t₂ (d .place) (o .place)) k (z .wrote)) in
+    let i : n + a ≡ n + length (runOf a r m .lines) = omega (arith, x .passes .count) in
+    let u : linesText n (runOf a r m .lines) ++ linesText (n + a) ls ≡ linesText n (runOf (a + c) r m .lines) =
+    ap (λ (j : ℕ). linesText n (runOf a r m .lines) ++ linesText j ls) i
+    ∙ sym (lines-append n (runOf a r m .lines) ls)
+    ∙ ap (linesText n) (sym (lines-both a c r at m m₁ (x .passes))) in
+    record {
+      passes = passes-both a c r at s m m₁ m₂ (x .passes) y;
+      well = w;
+      wrote = subst (Wrote t t₂ p (o .place)) u (then (x .wrote) v);
+    }
+
+no-lines : (r : Record) (m : List ℕ) → runOf 0 r m .lines ≡ []
+unfolding runOf
+no-lines r m = refl
+
+-- a loop that counts what is left of its budget down
+module _ (b l n p : ℕ) (r at : Record) (m₀ t₀ m t : List ℕ) (k : Mark) (fits : l ≤ b) (few : n + b ≤ most + 1)
+    (so-far : Walked r m₀ t₀ n p (walk (b - l) (k .place) at) m t) (shows : k .dial ≡ dialOf (n + (b - l))) where
+  -- so much room is left
+  pub room-left : p + 22 * b ≤ length t₀ → k .place + 22 * l ≤ length t
+  room-left h =
+      omega (arith, h, fits, few, walked-place r m₀ t₀ n p (walk (b - l) (k .place) at) m t (omega (arith, few)) so-far, wrote-length (so-far .wrote))
+
+  -- c cycles more
+  walked-by : (c : ℕ) (s : Record) (m′ t′ : List ℕ) (o : Mark) (ls : List Request) → c ≤ l → Passes c at m s m′ → wellFormed s ≡ true
+      → runOf c at m .lines ≡ ls → Small ls → Drawn t t′ k o ls → Walked r m₀ t₀ n p (walk (b - (l - c)) (o .place) s) m′ t′
+  walked-by c s m′ t′ o ls h x w e g d =
+      let j : b - l + c ≡ b - (l - c) = omega (arith, h, fits) in
+      subst (λ (i : ℕ). Walked r m₀ t₀ n p (walk i (o .place) s) m′ t′) j
+      (walked-more r m₀ t₀ n p (b - l) (k .place) at m t c s m′ t′ k o so-far x w shows refl (omega (arith, few, fits, h)) (subst Small (sym e) g)
+      (subst (Drawn t t′ k o) (sym e) d))
+
+  shows-by : (c : ℕ) (s : Record) (m′ t′ : List ℕ) (o : Mark) (ls : List Request) → c ≤ l → Passes c at m s m′ → runOf c at m .lines ≡ ls
+      → Drawn t t′ k o ls → o .dial ≡ dialOf (n + (b - (l - c)))
+  shows-by c s m′ t′ o ls h x e d =
+      let q : length ls ≡ c = ap length (sym e) ∙ x .count in
+      let j : n + (b - l) + length ls ≡ n + (b - (l - c)) = omega (arith, h, fits, q) in
+      d .dial ∙ ap (λ (v : Dial). turnsOf v ls) shows ∙ turns-lines (n + (b - l)) ls (omega (arith, few, fits, h, q)) ∙ ap dialOf j
+
+  -- the same where room and memory let them be drawn
+  module _ (c : ℕ) (s : Record) (m′ t′ : List ℕ) (o : Mark) (ls : List Request) (h : c ≤ l) (x : Passes c at m s m′) (e : runOf c at m .lines ≡ ls)
+      (room : k .place + 161 ≤ length t) (whole : length m′ ≡ 65536) (d : Drawn t t′ k o (pick (ready (k .place) t m′) ls [])) where
+    walked-on : wellFormed s ≡ true → Small ls → Walked r m₀ t₀ n p (walk (b - (l - c)) (o .place) s) m′ t′
+    walked-on w g = walked-by c s m′ t′ o ls h x w e g (drawn-ready t t′ m′ k o ls d room whole)
+
+    pub shows-on : o .dial ≡ dialOf (n + (b - (l - c)))
+    shows-on = shows-by c s m′ t′ o ls h x e (drawn-ready t t′ m′ k o ls d room whole)
+
+  -- a stride more, or a byte of a move
+  pub walked-stride : (c : ℕ) (s : Record) (m′ t′ : List ℕ) (o : Mark) → c ≤ l → Passes c at m s m′ → runOf c at m .lines ≡ strideLines at m m′ c
+      → k .place + 161 ≤ length t → length m′ ≡ 65536 → Drawn t t′ k o (pick (ready (k .place) t m′) (strideLines at m m′ c) [])
+      → wellFormed s ≡ true → at .pc < 65536 → getD m (up (at .pc) 2) 0 < 256 → Walked r m₀ t₀ n p (walk (b - (l - c)) (o .place) s) m′ t′
+  walked-stride c s m′ t′ o h x e room whole d w pc byte =
+      walked-on c s m′ t′ o (strideLines at m m′ c) h x e room whole d w
+      (small-track (trackOf (getD m (at .pc) 0)) (unaligned (at .d)) (getD m (at .pc) 0) (getD m (up (at .pc) 1) 0) (getD m (up (at .pc) 2) 0) (at .pc) (at .d) c m′ pc byte)
+
+  abbrev byteLines : List ℕ → List Request
+  byteLines m′ =
+      haulLines (getD m (at .pc) 0) (getD m (up (at .pc) 1) 0) (getD m (up (at .pc) 2) 0) (at .pc) (at .x) (at .y) (getD m (at .x) 0) (getD m′ (at .y) 0)
+
+  pub walked-haul : (c : ℕ) (s : Record) (m′ t′ : List ℕ) (o : Mark) → c ≤ l → Passes c at m s m′ → runOf c at m .lines ≡ byteLines m′
+      → k .place + 161 ≤ length t → length m′ ≡ 65536 → Drawn t t′ k o (pick (ready (k .place) t m′) (byteLines m′) [])
+      → wellFormed s ≡ true → (at .pc < 65536) × (at .x < 65536) × (at .y < 65536) → Walked r m₀ t₀ n p (walk (b - (l - c)) (o .place) s) m′ t′
+  walked-haul c s m′ t′ o h x e room whole d w z =
+      walked-on c s m′ t′ o (byteLines m′) h x e room whole d w
+      (small-haul (getD m (at .pc) 0) (getD m (up (at .pc) 1) 0) (getD m (up (at .pc) 2) 0) (at .pc) (at .x) (at .y) (getD m (at .x) 0) (getD m′ (at .y) 0) (z .0) (z .1) (z .2))
+
+  -- none more
+  pub walked-stop : (c : ℕ) (s : Record) (m′ : List ℕ) (w : Walk) → Passes c at m s m′ → wellFormed s ≡ true → c ≡ 0 → w ≡ walk (b - l) (k .place) s
+      → Walked r m₀ t₀ n p w m′ t
+  walked-stop c s m′ w x v z e =
+      let y : Passes 0 at m s m′ = subst (λ (i : ℕ). Passes i at m s m′) z x in
+      let j : b - (l - 0) ≡ b - l = omega arith in
+      let u : Walked r m₀ t₀ n p (walk (b - (l - 0)) (k .place) s) m′ t = walked-by 0 s m′ t k [] (omega arith) y v (no-lines at m) tt (drawn-none t k) in
+      subst (λ (i : Walk). Walked r m₀ t₀ n p i m′ t) (ap (λ (i : ℕ). walk i (k .place) s) j ∙ sym e) u
+
+-- from a record that is the same
+pub walked-from : (r s : Record) (m t : List ℕ) (n p : ℕ) (w : Walk) (m′ t′ : List ℕ) → s ≡ r → Walked s m t n p w m′ t′ → Walked r m t n p w m′ t′
+walked-from r s m t n p w m′ t′ e x = subst (λ (v : Record). Walked v m t n p w m′ t′) e x
+
+-- before the first
+pub shows-start : (b n : ℕ) (d : Dial) → d ≡ dialOf n → d ≡ dialOf (n + (b - b))
+shows-start b n d e = let j : n ≡ n + (b - b) = omega arith in e ∙ ap dialOf j
+
+pub walked-start : (b : ℕ) (r : Record) (m t : List ℕ) (n p q : ℕ) → q ≡ p → wellFormed r ≡ true → Walked r m t n p (walk (b - b) q r) m t
+walked-start b r m t n p q e w =
+    let j : 0 ≡ b - b = omega arith in
+    subst (λ (v : Walk). Walked r m t n p v m t) (ap (λ (i : ℕ). walk i p r) j ∙ ap (λ (i : ℕ). walk (b - b) i r) (sym e)) (walked-none r m t n p w)
+
+-- numbers of a loop: at least l₀ are left, and fewer than that are done at once
+pub done-few : (c l l₀ : ℕ) → c < l₀ → l₀ ≤ l → c ≤ l
+done-few c l l₀ h k = omega arith
+
+pub some-left : (c l l₀ : ℕ) → c < l₀ → l₀ ≤ l → 0 < l - c
+some-left c l l₀ h k = omega arith
+
+pub still-fits : (c l b : ℕ) → l ≤ b → l - c ≤ b
+still-fits c l b h = omega arith
+
+pub more-left : (l l₀ : ℕ) → l₀ < l → l₀ ≤ l
+more-left l l₀ h = omega arith
+
+-- ---- the loop: after d of b cycles from r₀ over m₀, whose lines go to place p₀ of t₀, numbered on from `before`
+
+pub record Going (b before : ℕ) (m₀ t₀ : List ℕ) (p₀ : ℕ) (r₀ : Record) (m t : List ℕ) (p : ℕ) (r : Record) (d : ℕ) : Type 0 where
+  pub within : d ≤ b
+  pub bank : length m ≡ length m₀
+  pub size : length t ≡ length t₀
+  pub room : p + 22 * (b - d) ≤ length t
+  pub well : wellFormed r ≡ true
+  pub left : Left d (runOf b r₀ m₀) (runOf (b - d) r m)
+  pub rest : Rest t₀ p₀ (before + 1) (runOf b r₀ m₀ .lines) t p (before + d + 1) (runOf (b - d) r m .lines)
+
+pub going-start : (b before : ℕ) (m t : List ℕ) (p : ℕ) (r : Record) → p + 22 * b ≤ length t → wellFormed r ≡ true → Going b before m t p r m t p r 0
+going-start b before m t p r h w =
+    record {
+      within = omega arith;
+      bank = refl;
+      size = refl;
+      room = omega arith;
+      well = w;
+      left = rw sub-zero (left-all _);
+      rest = rw (sub-zero, add-zero) (rest-all t p (before + 1) (runOf b r m .lines));
+    }
+
+module _ (b before : ℕ) (m₀ t₀ : List ℕ) (p₀ : ℕ) (r₀ : Record) (m t : List ℕ) (p : ℕ) (r : Record) (d : ℕ) (i : Going b before m₀ t₀ p₀ r₀ m t p r d) where
+  -- c is what the turn answered, m′ the memory and t′ the text that it left
+  pub going-on : (s : Record) (m′ t′ : List ℕ) (p′ : ℕ) (l : Request) (c : Turn) → d < b → before + b ≤ most → c ≡ cycleOf r m → m′ ≡ storeOf c m → c ≡ Done l s → length m′ ≡ length m → Put t t′ p p′ (lineText (before + d + 1) l) → Going b before m₀ t₀ p₀ r₀ m′ t′ p′ s (d + 1)
+  going-on s m′ t′ p′ l c h q e f g k u =
+      let x = next-done b d r s m m′ l c h e f g in
+      let z = rest-line l (omega arith) (omega (arith, i .room)) (rw x at (i .rest)) u in
+      let n : before + (d + 1) + 1 ≡ before + d + 1 + 1 = omega arith in
+      record {
+        within = omega arith;
+        bank = k ∙ i .bank;
+        size = z .size ∙ i .size;
+        room = omega (arith, z .size, z .after, i .room);
+        well = still-well r s m l c e g;
+        left = left-done b d _ r s m m′ l c h e f g (i .left);
+        rest = rw n (z .rest);
+      }
+
+  -- the answer where the loop ends
+  listed : (k : ℕ) (m′ : List ℕ) → runOf (b - d) r m ≡ ends k r m′ → Listed (runOf b r₀ m₀) (before + 1) p₀ t₀ (toldAs k d p r) m′ t
+  listed k m′ x =
+      let a : Left d (runOf b r₀ m₀) (ends k r m′) = rw x at (i .left) in
+      let w = rest-none t₀ t p₀ (before + 1) p (before + d + 1) _ (rw x at (i .rest)) in
+      let n : length (runOf b r₀ m₀ .lines) ≡ d = omega (arith, a .count) in
+      record {
+        answer = rw (a .number, a .rec, n, ← (w .place));
+        mem = sym (a .mem);
+        text = w .text;
+      }
+
+  pub going-stop : (m′ : List ℕ) (k : Refusal) (c : Turn) → d < b → c ≡ cycleOf r m → m′ ≡ storeOf c m → c ≡ Stop k → Listed (runOf b r₀ m₀) (before + 1) p₀ t₀ (toldAs (numberOf k) d p r) m′ t
+  going-stop m′ k c h e f g = listed (numberOf k) m′ (next-stop b d r m m′ k c h e f g)
+
+  pub going-end : b ≤ d → Listed (runOf b r₀ m₀) (before + 1) p₀ t₀ (toldAs 0 d p r) m t
+  going-end h = listed 0 m (next-none b d r m h)
+
+  -- a stretch on, whose lines were drawn
+  pub going-ahead : (w : Walk) (m′ t′ : List ℕ) → before + b ≤ most → Walked r m t (before + d + 1) p w m′ t′ → w .cycles < b - d
+      → Going b before m₀ t₀ p₀ r₀ m′ t′ (w .place) (w .after) (d + w .cycles)
+  going-ahead w m′ t′ q x h =
+      let n : ℕ = w .cycles in
+      let e : b - d ≡ n + (b - (d + n)) = omega (arith, h) in
+      let a : runOf (b - d) r m .lines ≡ runOf n r m .lines ++ runOf (b - (d + n)) (w .after) m′ .lines =
+      ap (λ (j : ℕ). runOf j r m .lines) e ∙ lines-both n (b - (d + n)) r (w .after) m m′ (x .passes) in
+      let j : before + (d + n) + 1 ≡ before + d + 1 + length (runOf n r m .lines) = omega (arith, x .passes .count) in
+      let f : linesText (before + d + 1) (runOf n r m .lines) ++ linesText (before + (d + n) + 1) (runOf (b - (d + n)) (w .after) m′ .lines)
+      ≡ linesText (before + d + 1) (runOf (b - d) r m .lines) =
+      ap (λ (k : ℕ). linesText (before + d + 1) (runOf n r m .lines) ++ linesText k (runOf (b - (d + n)) (w .after) m′ .lines)) j
+      ∙ sym (lines-append (before + d + 1) (runOf n r m .lines) (runOf (b - (d + n)) (w .after) m′ .lines))
+      ∙ ap (linesText (before + d + 1)) (sym a) in
+      let v : w .place ≤ p + 22 * n = walked-place r m t (before + d + 1) p w m′ t′ (omega (arith, q, h)) x in
+      let s : length t′ ≡ length t = wrote-length (x .wrote) in
+      record {
+        within = omega (arith, h);
+        bank = ap length (sym (x .passes .mem)) ∙ run-size n r m ∙ i .bank;
+        size = s ∙ i .size;
+        room = omega (arith, v, s, i .room, h);
+        well = x .well;
+        left = left-ahead b d n _ r (w .after) m m′ h (x .passes) (i .left);
+        rest = λ t″ k u. i .rest t″ k (subst (Wrote t t″ p k) f (then (x .wrote) u));
+      }
+
+pub one-more : (b d n : ℕ) → n < b - d → d + n < b
+one-more b d n h = omega arith
+
+-- room for seven lines of 23 bytes, where there is room for eight of 22
+pub seven-fit : (p l len l₀ : ℕ) → p + 22 * l ≤ len → l₀ ≤ l → l₀ ≡ 8 → p + 161 ≤ len
+seven-fit p l len l₀ h k e = omega arith
