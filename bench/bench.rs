@@ -113,8 +113,11 @@ fn crate_start(row: &Row) -> (CPU, Bus) {
     (c, bus)
 }
 
-/// Nanoseconds of so many cycles, and A, X, PC and the memory at the end.
-type Seen = (u64, u16, u16, u16, Vec<u8>);
+/// A, X, Y, S, D, PC, PBR, DBR, P; the crate doesn't say E.
+type Registers = [u16; 9];
+
+/// Nanoseconds of so many cycles, and the registers and the memory at the end.
+type Seen = (u64, Registers, Vec<u8>);
 
 fn by_crate(row: &Row, budget: u32) -> Seen {
     let (mut c, mut bus) = crate_start(row);
@@ -122,7 +125,9 @@ fn by_crate(row: &Row, budget: u32) -> Seen {
     for _ in 0..budget {
         c.cycle(&mut bus);
     }
-    (t.elapsed().as_nanos() as u64, c.c(), c.x(), c.pc(), bus.mem)
+    let ns = t.elapsed().as_nanos() as u64;
+    let r = [c.c(), c.x(), c.y(), c.s(), c.d(), c.pc(), c.pbr() as u16, c.dbr() as u16, c.p() as u16];
+    (ns, r, bus.mem)
 }
 
 fn word(r: &[u8], i: usize) -> u16 {
@@ -133,7 +138,10 @@ fn by_ours(row: &Row, budget: u32, how: &mut dyn FnMut(&mut [u8; 40], &mut Vec<u
     let (mut r, mut mem) = (record(row), memory(row));
     let t = Instant::now();
     how(&mut r, &mut mem, budget);
-    (t.elapsed().as_nanos() as u64, word(&r, 4), word(&r, 6), word(&r, 14), mem)
+    let ns = t.elapsed().as_nanos() as u64;
+    let w = |i| word(&r, i);
+    let b = |i: usize| r[i] as u16;
+    (ns, [w(4), w(6), w(8), w(10), w(12), w(14), b(16), b(17), b(18)], mem)
 }
 
 fn plain(r: &mut [u8; 40], mem: &mut Vec<u8>, budget: u32) {
@@ -148,7 +156,7 @@ fn stepped(r: &mut [u8; 40], mem: &mut Vec<u8>, budget: u32) {
 fn ratio(row: &Row, budget: u32, rounds: usize, how: &mut dyn FnMut(&mut [u8; 40], &mut Vec<u8>, u32)) -> (f64, f64) {
     for n in [1, 2, 7, 100, 12_345, budget] {
         let (a, b) = (by_crate(row, n), by_ours(row, n, how));
-        assert!((a.1, a.2, a.3, &a.4) == (b.1, b.2, b.3, &b.4), "{}: {n} cycles: A X PC {:x?} and {:x?}", row.name, (a.1, a.2, a.3), (b.1, b.2, b.3));
+        assert!((a.1, &a.2) == (b.1, &b.2), "{}: {n} cycles: {:x?} and {:x?}", row.name, a.1, b.1);
     }
     let (mut theirs, mut ours) = (vec![], vec![]);
     for _ in 0..rounds {
