@@ -6,3 +6,4 @@ pub mod Whole
 pub mod Strides
 pub mod ByOpcode
 pub mod Stretches
+pub mod Far

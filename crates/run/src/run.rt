@@ -7,6 +7,7 @@ ghost use Rattle.cpu.specs.Record.{wellFormed};
 ghost use Rattle.stride.specs.Strides.{fresh, stretch};
 ghost use Rattle.run.specs.Runs.{told, outcome, malformed, runOf, wholeRun, size};
 ghost use Rattle.run.specs.Passes.{Goes};
+ghost use Rattle.run.specs.Far.{stridesFar, haulsFar, aheadFar};
 use crate::types::Outcome;
 use cpu::record::well_formed;
 use cpu::types::Record;
@@ -44,6 +45,7 @@ fn strides(r: Record, mem: &mut [u8], budget: u32) -> Stretch
     requires { ⌜ (length (now mem) ≡ size) × (wellFormed r ≡ true) × (fresh r ≡ true) × (0 < budget) ⌝ }
     ensures { λ t. ⌜ Goes r (now (mem .entry)) t (now (mem .exit)) ⌝ }
     ensures less { λ t. ⌜ t .cycles < budget ⌝ }
+    ensures far { λ t. ⌜ t .cycles ≡ stridesFar budget r (now (mem .entry)) ⌝ }
 {
     let mut at = cleared(r);
     let mut left = budget;
@@ -63,6 +65,7 @@ fn hauls(r: Record, mem: &mut [u8], budget: u32) -> Stretch
     requires { ⌜ (length (now mem) ≡ size) × (wellFormed r ≡ true) × (0 < budget) ⌝ }
     ensures { λ t. ⌜ Goes r (now (mem .entry)) t (now (mem .exit)) ⌝ }
     ensures less { λ t. ⌜ t .cycles < budget ⌝ }
+    ensures far { λ t. ⌜ t .cycles ≡ haulsFar budget r (now (mem .entry)) ⌝ }
 {
     let mut at = r;
     let mut left = budget;
@@ -82,6 +85,7 @@ fn ahead(r: Record, mem: &mut [u8], budget: u32) -> Stretch
     requires { ⌜ (length (now mem) ≡ size) × (wellFormed r ≡ true) × (0 < budget) ⌝ }
     ensures { λ t. ⌜ Goes r (now (mem .entry)) t (now (mem .exit)) ⌝ }
     ensures less { λ t. ⌜ t .cycles < budget ⌝ }
+    ensures far { λ t. ⌜ t .cycles ≡ aheadFar budget r (now (mem .entry)) ⌝ }
 {
     let start = is_fresh(r);
     if start {

@@ -1,5 +1,6 @@
 use borrow.Author.Needs.{needs}
 use mathlib.Core.Path.{sym, _∙_}
+use Rattle.run.proofs.Far.{far-fresh, far-not-fresh}
 use Rattle.run.proofs.run.ahead.Statement.{statement}
 use Rattle.run.proofs.run.ahead.Tie as tie
 
@@ -16,13 +17,17 @@ same-length : tie.Need-same-length
 same-length c = search needs
 
 returns : tie.Need-returns
-returns c = c .before .before .strides .ensures
+returns c =
+    let s = c .before .before .strides .ensures in
+    (s .0, (s .1 .0, s .1 .1 ∙ sym (far-fresh _ _ _ (sym (c .before .before .before .before .before .is-fresh .ensures) ∙ c .before .before .before .before .if1 .taken))))
 
 same-length-2 : tie.Need-same-length-2
 same-length-2 c = search needs
 
 returns-2 : tie.Need-returns-2
-returns-2 c = c .before .before .hauls .ensures
+returns-2 c =
+    let s = c .before .before .hauls .ensures in
+    (s .0, (s .1 .0, s .1 .1 ∙ sym (far-not-fresh _ _ _ (sym (c .before .before .before .before .before .is-fresh .ensures) ∙ c .before .before .before .before .if1 .left))))
 
 pub ahead-spec : {M : Type 1} → statement M
 ahead-spec =

@@ -29,7 +29,7 @@ ahead-requires : tie.Need-ahead-requires Inv-loop μ-loop
 ahead-requires c κs = let i = c .before .before .loop .inv in (i .1 ∙ c .before .before .before .before .pre .0, i .2, omega (arith, c .before .loop-test .taken))
 
 add-done : tie.Need-add-done Inv-loop μ-loop
-add-done c = omega (arith, c .before .before .before .before .ahead .ensures .1, c .before .before .before .before .before .before .loop-test .taken)
+add-done c = omega (arith, c .before .before .before .before .ahead .ensures .1 .0, c .before .before .before .before .before .before .loop-test .taken)
 
 well-micro-requires : tie.Need-well-micro-requires Inv-loop μ-loop
 well-micro-requires c κs = search needs
@@ -59,15 +59,15 @@ returns c =
     let i = c .before .before .before .before .before .before .before .before .before .before .before .before .before .before .before .before .loop .inv in
     let t = turned _ _ _ _ (z .0 .1) (c .before .before .before .before .before .before .before .before .well-micro .ensures) (y .0) in
     let g = c .before .before .enum-told .given .1 in
-    let far = left-ahead _ _ _ _ _ _ _ _ (z .1) (z .0 .0) (i .3) in
-    let a = left-stop _ _ _ _ _ _ _ _ (omega (arith, z .1)) t (y .1) g far in
+    let far = left-ahead _ _ _ _ _ _ _ _ (z .1 .0) (z .0 .0) (i .3) in
+    let a = left-stop _ _ _ _ _ _ _ _ (omega (arith, z .1 .0)) t (y .1) g far in
     (rw (c .ended .ensures, c .before .refused-by .ensures, g) (left-told _ _ _ _ _ a), sym (a .mem))
 
 add-done-2 : tie.Need-add-done-2 Inv-loop μ-loop
-add-done-2 c = omega (arith, c .before .before .before .before .before .before .before .before .before .before .before .before .ahead .ensures .1, c .before .before .before .before .before .before .before .before .before .before .before .before .before .before .before .before .before .fits .budget)
+add-done-2 c = omega (arith, c .before .before .before .before .before .before .before .before .before .before .before .before .ahead .ensures .1 .0, c .before .before .before .before .before .before .before .before .before .before .before .before .before .before .before .before .before .fits .budget)
 
 loop-less : tie.Need-loop-less Inv-loop μ-loop
-loop-less c = omega (arith, c .before .before .before .before .before .before .before .before .before .before .before .before .ahead .ensures .1)
+loop-less c = omega (arith, c .before .before .before .before .before .before .before .before .before .before .before .before .ahead .ensures .1 .0)
 
 loop-again : tie.Need-loop-again Inv-loop μ-loop
 loop-again c =
@@ -76,11 +76,11 @@ loop-again c =
     let i = c .before .before .before .before .before .before .before .before .before .before .before .before .before .before .before .loop .inv in
     let t = turned _ _ _ _ (z .0 .1) (c .before .before .before .before .before .before .before .well-micro .ensures) (y .0) in
     let g = c .before .t .given .1 in
-    let far = left-ahead _ _ _ _ _ _ _ _ (z .1) (z .0 .0) (i .3) in (
-      omega (arith, z .1),
+    let far = left-ahead _ _ _ _ _ _ _ _ (z .1 .0) (z .0 .0) (i .3) in (
+      omega (arith, z .1 .0),
       omega (arith, c .before .before .before .before .before .turn .kept .1 .1 .0, c .before .before .before .before .before .before .before .before .before .before .before .before .ahead .kept .1 .0, i .1),
       still-well _ _ _ _ _ t g,
-      left-done _ _ _ _ _ _ _ _ _ (omega (arith, z .1)) t (y .1) g far,
+      left-done _ _ _ _ _ _ _ _ _ (omega (arith, z .1 .0)) t (y .1) g far,
     )
 
 ended-requires-2 : tie.Need-ended-requires-2 Inv-loop μ-loop
