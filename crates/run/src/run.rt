@@ -21,7 +21,8 @@ use stride::stride::is_fresh;
 use stride::stride::stride;
 use stride::types::Stretch;
 
-fn ended(refusal: u8, cycles: u32, after: Record) -> Outcome
+// How a run ended: its refusal's number or 0, the cycles that were completed, and the record after them.
+pub fn ended(refusal: u8, cycles: u32, after: Record) -> Outcome
     ensures { λ o. ⌜ o ≡ outcome refusal cycles after ⌝ }
 {
     Outcome {

@@ -8,17 +8,17 @@ use lib.Dec.{eqb}
 use lib.ListN.{length}
 use borrow.Author.Tests.{eqb-true, eqb-false, eq-eqb, ne-eqb}
 use Rattle.words.specs.Words.{pick}
-use Rattle.cpu.specs.Record.{wellFormed, numberOf}
+use Rattle.cpu.specs.Record.{numberOf}
 use Rattle.cpu.specs.declared.types.Record.{Record}
 use Rattle.cpu.specs.declared.types.Request.{Request}
 use Rattle.cpu.specs.declared.types.Refusal.{Refusal}
 use Rattle.cycles.specs.declared.types.Micro.{Micro}
-use Rattle.step.specs.Cycle.{microOf, wellMicro}
+use Rattle.step.specs.Cycle.{microOf}
 use Rattle.memory.specs.Turns.{turnBy, cycleOf, storeLine, storeOf, stoppedBy}
 use Rattle.memory.specs.declared.types.Turn.{Turn}
 use Rattle.memory.specs.declared.types.Turn.the-variants.{Done, Stop}
-use Rattle.run.specs.Runs.{End, ends, more, runOf, wholeRun, size, most}
-use Rattle.run.proofs.Laws.{run-done, run-stop, run-none, accepted, refused-1, well-turn, still-well}
+use Rattle.run.specs.Runs.{End, ends, more, wholeRun, size}
+use Rattle.run.proofs.Laws.{run-done, run-stop, run-none, accepted, refused-1}
 use Rattle.run.proofs.Counted.{refusal-numbered}
 use Rattle.session.specs.declared.types.Session.{Session}
 use Rattle.session.specs.declared.types.Stepped.{Stepped}
@@ -33,7 +33,8 @@ by-end : (s : Session) (m : List ℕ) (e : End) → wholeRun 1 (s .at) m ≡ e
 unfolding cycledOver memoryOver
 by-end s m e h = (ap (λ (v : End). afterRun (s .cycles) (v .number) (v .rec)) h, ap (λ (v : End). v .mem) h)
 
-uncounted : (n : Refusal) (c : ℕ) → countedIf (numberOf n) c ≡ c
+-- a refused cycle isn't counted
+pub uncounted : (n : Refusal) (c : ℕ) → countedIf (numberOf n) c ≡ c
 uncounted n c = ap (λ (t : Bool). pick t (counted c) c) (ne-eqb (numberOf n) 0 (refusal-numbered n))
 
 -- by what the turn came to
@@ -63,31 +64,6 @@ pub own-by : (c : Micro) (s : Session) (m k : List ℕ) (t : Stepped) → c ≡ 
 own-by c s m k t d f g =
     let h = own-cycle s m in
     (f ∙ ap (λ (v : Micro). cycledBy v s m) d ∙ h .0, g ∙ ap (λ (v : Micro). memoryBy v s m) d ∙ h .1)
-
-same-micro : (r : Record) → wellFormed r ≡ true → wellMicro r ≡ microOf r
-unfolding microOf
-same-micro r w = rw w
-
--- the same of a well-formed record, whose well-formedness isn't tested again
-pub well-cycle : (c : Micro) (s : Session) (m k : List ℕ) (t : Stepped) → wellFormed (s .at) ≡ true → c ≡ wellMicro (s .at)
-    → t ≡ cycledBy c s m → k ≡ memoryBy c s m → Same t k s m
-well-cycle c s m k t w e f g = own-by c s m k t (e ∙ same-micro (s .at) w) f g
-
--- and what it leaves is well formed again
-well-turned : (s : Session) (m : List ℕ) (t : Turn) → wellFormed (s .at) ≡ true → t ≡ cycleOf (s .at) m → wellFormed (turnedTo s t .session .at) ≡ true
-well-turned s m (Done l r) w e = still-well (s .at) r m l (Done l r) e refl
-well-turned s m (Stop n) w e = w
-
-well-picked : (s : Session) (b : Bool) (t u : Stepped) → wellFormed (t .session .at) ≡ true → wellFormed (u .session .at) ≡ true
-    → wellFormed (pick b t u .session .at) ≡ true
-well-picked s true t u f g = f
-well-picked s false t u f g = g
-
-pub well-after : (s : Session) (m : List ℕ) → wellFormed (s .at) ≡ true → wellFormed (cycledOver s m .session .at) ≡ true
-unfolding cycledBy cycleOf
-well-after s m w =
-    ap (λ (v : Stepped). wellFormed (v .session .at)) (sym (own-cycle s m .0))
-    ∙ well-picked s (eqb (length m) size) _ _ (well-turned s m (cycleOf (s .at) m) w refl) w
 
 -- ---- what the code answers, by the memory's size and the turn
 abbrev pub Answers : (c : Micro) (s : Session) (m : List ℕ) (u : Stepped) (k : List ℕ) → Type 0

@@ -1,12 +1,12 @@
 -- What a bench may rely on: a refused step changes nothing, one that isn't refused counts, and two cycles in a row are a run of two.
-use Prim.Native.Nat.{ℕ, _+_, _≤_, _<_}
+use Prim.Native.Nat.{ℕ, zero, suc, _+_, _≤_, _<_}
 use mathlib.Core.Path.{_≡_, refl, sym, _∙_, ap}
 use mathlib.Core.Bool.{Bool, true, false}
 use mathlib.Core.List.{List}
 use native.Mathlib.Omega.{arith}
 use lib.Dec.{leb, eqb, ltb}
 use lib.ListN.{length, set, length-set}
-use borrow.Author.Tests.{ltb-true, eqb-true, eqb-false, lt-ltb, eq-eqb, ne-eqb}
+use borrow.Author.Tests.{ltb-true, ltb-false, eqb-true, eqb-false, lt-ltb, eq-eqb, ne-eqb}
 use Rattle.words.specs.Words.{pick}
 use Rattle.cpu.specs.Record.{numberOf}
 use Rattle.cpu.specs.declared.types.Record.{Record}
@@ -23,7 +23,7 @@ use Rattle.run.proofs.Counted.{refusal-numbered}
 use Rattle.run.proofs.TwoRuns.{cut}
 use Rattle.session.specs.declared.types.Session.{Session}
 use Rattle.session.specs.declared.types.Stepped.{Stepped}
-use Rattle.session.specs.Sessions.{top, counted, cameTo, answeredTo, cycledOver, memoryOver}
+use Rattle.session.specs.Sessions.{top, counted, countedOn, cameTo, answeredTo, cycledOver, memoryOver}
 
 -- ---- the count
 
@@ -43,6 +43,22 @@ within n false e h = simp e (omega arith, h)
 
 pub never-wraps : (n : ℕ) → n ≤ top → (n ≤ counted n) × (counted n ≤ top)
 never-wraps n h = within n (ltb n top) refl h
+
+-- so many more: the sum, as far as it fits, or else the top
+pub counted-sum : (k n : ℕ) → n + k ≤ top → countedOn k n ≡ n + k
+unfolding countedOn
+counted-sum zero n h = omega arith
+counted-sum (suc k) n h = ap (countedOn k) (counted-below n (omega (arith, h))) ∙ counted-sum k (n + 1) (omega (arith, h)) ∙ omega arith
+
+grown : (n k : ℕ) (b : Bool) → ltb n top ≡ b → top ≤ n + suc k → top ≤ counted n + k
+unfolding counted
+grown n k true e h = simp e (omega (arith, h))
+grown n k false e h = simp e (omega (arith, ltb-false n top e))
+
+pub counted-full : (k n : ℕ) → n ≤ top → top ≤ n + k → countedOn k n ≡ top
+unfolding countedOn
+counted-full zero n h g = omega (arith, h, g)
+counted-full (suc k) n h g = let i = never-wraps n h in counted-full k (counted n) (i .1) (grown n k (ltb n top) refl g)
 
 -- ---- by an answered byte
 

@@ -1,6 +1,6 @@
 -- A bench session: a record with the count of its completed cycles. A step of it is a cycle, by an answered byte or over a memory; a
 -- refused one leaves it as it was.
-use Prim.Native.Nat.{ℕ, _+_}
+use Prim.Native.Nat.{ℕ, zero, suc, _+_}
 use mathlib.Core.List.{List}
 use lib.Dec.{eqb, ltb}
 use lib.ListN.{length}
@@ -26,6 +26,11 @@ top = 18446744073709551615
 -- one more, but at the top it stands still: a count never wraps
 unfoldable pub counted : ℕ → ℕ
 counted n = pick (ltb n top) (n + 1) n
+
+-- so many more
+unfoldable pub countedOn : ℕ → ℕ → ℕ
+countedOn zero n = n
+countedOn (suc k) n = countedOn k (counted n)
 
 -- a refused cycle, one with a number, isn't counted
 abbrev pub countedIf : (number cycles : ℕ) → ℕ

@@ -2,7 +2,7 @@
 ghost use mathlib.Core.Path.{_≡_};
 ghost use Rattle.step.specs.Cycle.{requestOf};
 ghost use Rattle.step.specs.Answers.{answerNumber};
-ghost use Rattle.session.specs.Sessions.{counted, started, stepped, answeredTo, cycledBy, memoryBy, cycledOver, memoryOver};
+ghost use Rattle.session.specs.Sessions.{counted, countedOn, started, stepped, answeredTo, cycledBy, memoryBy, cycledOver, memoryOver};
 use crate::types::Session;
 use crate::types::Stepped;
 use cpu::record::number;
@@ -40,6 +40,14 @@ fn count(n: u64) -> u64
     ensures { λ m. ⌜ m ≡ counted n ⌝ }
 {
     if n < TOP { n + 1 } else { n }
+}
+
+// So many more, likewise.
+pub fn count_on(n: u64, more: u32) -> u64
+    ensures { λ m. ⌜ m ≡ countedOn more n ⌝ }
+{
+    let k = more as u64;
+    if n <= TOP - k { n + k } else { TOP }
 }
 
 fn number_of(a: Answer) -> u8
@@ -83,8 +91,8 @@ fn standing(s: Session, number: u8) -> Stepped
     }
 }
 
-// The session after what `m` does over a lent memory that stands for bank 0: the inner entry, for whoever does many cycles.
-pub fn cycled_by(m: Micro, s: Session, mem: &mut [u8]) -> Stepped
+// The session after what `m` does over a lent memory that stands for bank 0.
+fn cycled_by(m: Micro, s: Session, mem: &mut [u8]) -> Stepped
     ensures { λ t. ⌜ (t ≡ cycledBy m s (now (mem .entry))) × (now (mem .exit) ≡ memoryBy m s (now (mem .entry))) ⌝ }
 {
     if mem.len() != 65536 {

@@ -1,16 +1,24 @@
-// Cycle after cycle of a session, by value: it is taken from its bytes once and put back once, and its record's form is tested once.
+// Cycle after cycle of a session. The record goes through the loop alone: its form and the memory's size are tested before, and the cycles are counted after.
 ghost use mathlib.Core.Path.{_≡_};
 ghost use mathlib.Core.Bool.{true};
 ghost use lib.Dec.{eqb};
 ghost use Rattle.words.specs.Words.{pick};
 ghost use Rattle.cpu.specs.Record.{wellFormed};
-ghost use Rattle.run.specs.Runs.{size};
+ghost use Rattle.run.specs.Runs.{told, runOf, size};
+ghost use Rattle.session.specs.Sessions.{sessionAt, countedOn};
 ghost use Rattle.session_port.specs.Port.{wentTo, courseOf, toldOf, unfitOf};
 use crate::types::Went;
 use cpu::record::well_formed;
-use session::session::cycled_by;
+use cpu::types::Record;
+use memory::turn::refused_by;
+use memory::turn::turn;
+use memory::types::Turn;
+use run::run::ended;
+use run::types::Outcome;
+use session::session::count_on;
 use session::types::Session;
 use step::well_micro;
+use words::both;
 
 fn went(session: Session, cycles: u32, number: u8) -> Went
     ensures { λ w. ⌜ w ≡ wentTo session cycles number ⌝ }
@@ -22,24 +30,38 @@ fn went(session: Session, cycles: u32, number: u8) -> Went
     }
 }
 
-// The cycles of a session whose record is well formed: every cycle keeps it so.
-fn paces(s: Session, mem: &mut [u8], count: u32) -> Went
-    requires { ⌜ wellFormed (s .at) ≡ true ⌝ }
-    ensures { λ w. ⌜ (w ≡ toldOf (courseOf count s (now (mem .entry)))) × (now (mem .exit) ≡ courseOf count s (now (mem .entry)) .mem) ⌝ }
+// The cycles of a well-formed record: every cycle keeps it so.
+fn paces(rec: Record, mem: &mut [u8], count: u32) -> Outcome
+    requires { ⌜ wellFormed rec ≡ true ⌝ }
+    ensures { λ o. ⌜ (o ≡ told (runOf count rec (now (mem .entry)))) × (now (mem .exit) ≡ runOf count rec (now (mem .entry)) .mem) ⌝ }
 {
-    let mut at = s;
+    let mut at = rec;
     let mut done: u32 = 0;
     while done < count {
-        let r = at.at;
-        let t = cycled_by(well_micro(r), at, mem);
-        at = t.session;
-        let number = t.number;
-        if number != 0 {
-            return went(at, done, number);
-        }
+        let t = turn(well_micro(at), at, mem);
+        let Turn::Done(_, next) = t else {
+            return ended(refused_by(t), done, at);
+        };
+        at = next;
         done += 1;
     }
-    went(at, done, 0)
+    ended(0, done, at)
+}
+
+// A session of so many cycles that went on so far.
+fn gone_on(before: u64, o: Outcome) -> Went
+    ensures { λ w. ⌜ w ≡ wentTo (sessionAt (o .after) (countedOn (o .cycles) before)) (o .cycles) (o .refusal) ⌝ }
+{
+    let after = o.after;
+    let cycles = count_on(before, o.cycles);
+    went(
+        Session {
+            at: after,
+            cycles: cycles,
+        },
+        o.cycles,
+        o.refusal,
+    )
 }
 
 // Why what is no session does no cycle: 4, but 1 comes before it.
@@ -49,7 +71,7 @@ pub fn unfit_by(len: usize) -> u8
     if len != 65536 { 1 } else { 4 }
 }
 
-// A session whose record isn't well formed, if a cycle is asked for at all.
+// A session that can do no cycle, if one is asked for at all.
 fn unfit(s: Session, len: usize, count: u32) -> Went
     ensures { λ w. ⌜ w ≡ unfitOf count len s ⌝ }
 {
@@ -65,9 +87,9 @@ pub fn repeated(s: Session, mem: &mut [u8], count: u32) -> Went
     ensures { λ w. ⌜ (w ≡ toldOf (courseOf count s (now (mem .entry)))) × (now (mem .exit) ≡ courseOf count s (now (mem .entry)) .mem) ⌝ }
 {
     let at = s.at;
-    let well = well_formed(at);
-    if well {
-        paces(s, mem, count)
+    let fit = both(mem.len() == 65536, well_formed(at));
+    if fit {
+        gone_on(s.cycles, paces(at, mem, count))
     } else {
         unfit(s, mem.len(), count)
     }
