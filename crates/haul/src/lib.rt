@@ -11,20 +11,12 @@ use cpu::record::finished;
 use cpu::record::regs;
 use cpu::registers::choose;
 use cpu::types::Record;
+use stride::stride::stretch_of;
 use stride::types::Stretch;
 use words::both;
 use words::down;
 use words::either;
 use words::up;
-
-fn stretch_of(cycles: u32, after: Record) -> Stretch
-    ensures { λ t. ⌜ t ≡ stretch cycles after ⌝ }
-{
-    Stretch {
-        cycles: cycles,
-        after: after,
-    }
-}
 
 // PC, X and Y lie inside the memory: so much is known of words that are handed over, and the law asks for it.
 fn words_inside(pc: u16, x: u16, y: u16)

@@ -12,7 +12,7 @@ use Rattle.opcodes.specs.declared.types.Op.the-variants.{Unlisted}
 use Rattle.opcodes.proofs.Keys.{Missed, inAny, not-missed}
 use Rattle.quick.specs.Quick.{quickened}
 use Rattle.quick.specs.declared.types.Quick.{Quick}
-use Rattle.quick.specs.declared.types.Quick.the-variants.{Slow, Read, Store, Do, If, Jump, Move}
+use Rattle.quick.specs.declared.types.Quick.the-variants.{Slow, Read, Store, Do, If, Jump}
 
 abbrev isSlow : Quick → Bool
 isSlow Slow = true
@@ -21,7 +21,6 @@ isSlow (Store m k) = false
 isSlow (Do k) = false
 isSlow (If k t) = false
 isSlow Jump = false
-isSlow (Move t) = false
 
 -- every row is slow, or its code is a key
 abbrev pub slowOrKey : List (Row Op) → List (List ℕ) → Bool
@@ -44,7 +43,6 @@ slow (Store m k) n kss t h = not-missed n kss t h
 slow (Do k) n kss t h = not-missed n kss t h
 slow (If k t′) n kss t h = not-missed n kss t h
 slow Jump n kss t h = not-missed n kss t h
-slow (Move t′) n kss t h = not-missed n kss t h
 
 -- a byte that is none of the keys is slow
 pub slow-rest : (n : ℕ) (rs : List (Row Op)) (kss : List (List ℕ)) → T (slowOrKey rs kss) → Missed kss n → quickened (find Unlisted n rs) ≡ Slow

@@ -5,7 +5,7 @@ use Rattle.flags.specs.declared.Flags.{Flags}
 use Rattle.cpu.specs.Record.{same}
 use Rattle.cpu.specs.declared.types.Cond.{Cond}
 use Rattle.cpu.specs.declared.types.Cond.the-variants as if
-use Rattle.opcodes.specs.Opcodes.{decodeOf, aluOf, regOf, sourceIn, oneIn, condIn, flagIn}
+use Rattle.opcodes.specs.Opcodes.{decodeOf, aluOf, regOf, sourceIn, oneIn, condIn}
 use Rattle.opcodes.specs.declared.types.Op.{Op}
 use Rattle.opcodes.specs.declared.types.Op.the-variants.{Unlisted, Listed}
 use Rattle.opcodes.specs.declared.types.Shape.the-variants as shape
@@ -13,7 +13,7 @@ use Rattle.quick.specs.declared.types.Mode.the-variants.{Immediate, Dire
 use Rattle.quick.specs.declared.types.Test.{Test}
 use Rattle.quick.specs.declared.types.Test.the-variants as test
 use Rattle.quick.specs.declared.types.Quick.{Quick}
-use Rattle.quick.specs.declared.types.Quick.the-variants.{Slow, Read, Store, Do, If, Jump, Move}
+use Rattle.quick.specs.declared.types.Quick.the-variants.{Slow, Read, Store, Do, If, Jump}
 
 -- a branch's condition in its parts, and whether these let it be taken
 abbrev pub testIn : Cond → Test
@@ -48,7 +48,7 @@ quickened (Listed shape.StoreAbsolute o) = Store Absolute (sourceIn o)
 quickened (Listed shape.Implied o) = Do (oneIn o)
 quickened (Listed shape.Branch o) = If (testIn (condIn o)) (wantIn (condIn o))
 quickened (Listed shape.Jump o) = Jump
-quickened (Listed shape.Move o) = Move (flagIn o)
+quickened (Listed shape.Move o) = Slow
 quickened (Listed shape.Xba o) = Slow
 quickened (Listed shape.Mask o) = Slow
 quickened (Listed shape.Wdm o) = Slow

@@ -20,11 +20,10 @@ pub enum Test {
 }
 
 pub enum Quick {
-    Slow, // any other opcode, and a byte that is none
+    Slow, // any other opcode, a move among them, and a byte that is none
     Read(Mode, Alu, Reg),
     Store(Mode, Source),
     Do(One),
     If(Test, bool), // and what the flag must be
     Jump,
-    Move(bool), // MVP, downwards: false, MVN, upwards: true
 }

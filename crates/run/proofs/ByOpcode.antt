@@ -308,7 +308,6 @@ module _ (r : Record) (m : List ℕ) where
   still (quick.Do k) h = refl
   still (quick.If k want) h = refl
   still quick.Jump h = refl
-  still (quick.Move ups) h = refl
 
   -- no instruction here is longer than seven cycles
   spot-short : (k : Mode) (w : Bool) → spotOf r m k w .cycles < 8
@@ -344,7 +343,6 @@ module _ (r : Record) (m : List ℕ) where
   short (quick.If k want) =
       branch-short (goes k want (r .flags)) (r .flags .emulation && not (samePage (up (r .pc) 2) (displaced (up (r .pc) 2) (lowOf (there r m (up (r .pc) 1))))))
   short quick.Jump = omega arith
-  short (quick.Move ups) = omega arith
 
 module _ (r : Record) (m : List ℕ) (whole : length m ≡ size) (well : wellFormed r ≡ true) (start : fresh r ≡ true) (small : r .pc < 65536) where
   first-half : (eqb (r .pbr) 0 && not (r .held)) ≡ true

@@ -4,7 +4,7 @@ ghost use mathlib.Core.Bool.{true};
 ghost use Prim.Native.Nat.{_≤_, _<_};
 ghost use lib.ListN.{length};
 ghost use Rattle.cpu.specs.Record.{wellFormed};
-ghost use Rattle.stride.specs.Strides.{fresh, stretch};
+ghost use Rattle.stride.specs.Strides.{fresh};
 ghost use Rattle.run.specs.Runs.{told, outcome, malformed, runOf, wholeRun, size};
 ghost use Rattle.run.specs.Passes.{Goes};
 ghost use Rattle.run.specs.Far.{stridesFar, haulsFar, aheadFar};
@@ -18,6 +18,7 @@ use memory::types::Turn;
 use step::well_micro;
 use stride::stride::cleared;
 use stride::stride::is_fresh;
+use stride::stride::stretch_of;
 use stride::stride::stride;
 use stride::types::Stretch;
 
@@ -27,15 +28,6 @@ pub fn ended(refusal: u8, cycles: u32, after: Record) -> Outcome
 {
     Outcome {
         refusal: refusal,
-        cycles: cycles,
-        after: after,
-    }
-}
-
-fn stretch_of(cycles: u32, after: Record) -> Stretch
-    ensures { λ t. ⌜ t ≡ stretch cycles after ⌝ }
-{
-    Stretch {
         cycles: cycles,
         after: after,
     }

@@ -16,7 +16,7 @@ use Rattle.quick.specs.Quick.{quickOf, goes}
 use Rattle.quick.specs.declared.types.Mode.{Mode}
 use Rattle.quick.specs.declared.types.Mode.the-variants.{Immediate, Direct, Absolute}
 use Rattle.quick.specs.declared.types.Quick.{Quick}
-use Rattle.quick.specs.declared.types.Quick.the-variants.{Slow, Read, Store, Do, If, Jump, Move}
+use Rattle.quick.specs.declared.types.Quick.the-variants.{Slow, Read, Store, Do, If, Jump}
 use Rattle.cycles.specs.Cycles.{unaligned}
 use Rattle.stride.specs.declared.types.Leg.{Leg}
 use Rattle.stride.specs.declared.types.Spot.{Spot}
@@ -104,7 +104,6 @@ module _ (r : Record) (m : List ℕ) where
   legBy (Do k) = leg 2 (up (r .pc) 1) (stackOf k (r .s) (regsOf r)) (r .dbr) (applied k (r .s) (regsOf r))
   legBy (If k want) = branching (goes k want (r .flags))
   legBy Jump = kept 3 operand r
-  legBy (Move ups) = kept 0 (r .pc) r
 
   abbrev pub legOf : Leg
   legOf = legBy (quickOf opcode)
@@ -119,7 +118,6 @@ module _ (r : Record) (m : List ℕ) where
   memBy (Do k) = m
   memBy (If k want) = m
   memBy Jump = m
-  memBy (Move ups) = m
 
   abbrev pub memOf : List ℕ
   memOf = memBy (quickOf opcode)

@@ -278,7 +278,6 @@ fn leg_of(q: Quick, r: Record, mem: &mut [u8]) -> Leg
         Quick::Do(k) => one(k, r),
         Quick::If(k, want) => branch(k, want, r, mem),
         Quick::Jump => jump(r, mem),
-        Quick::Move(_) => kept(0, r.pc, r),
     }
 }
 
@@ -299,7 +298,8 @@ fn arrive(op: u8, r: Record, l: Leg) -> Stretch
     }
 }
 
-fn stretch_of(cycles: u32, after: Record) -> Stretch
+// So many cycles at a stretch, and the record after them.
+pub fn stretch_of(cycles: u32, after: Record) -> Stretch
     ensures { λ t. ⌜ t ≡ stretch cycles after ⌝ }
 {
     Stretch {

@@ -30,7 +30,6 @@ trackBy (quick.Store mode.Absolute k) = StoreAbsolute
 trackBy (quick.Do k) = Inside
 trackBy (quick.If k want) = Branch
 trackBy quick.Jump = Program
-trackBy (quick.Move ups) = Inside
 
 unfoldable pub trackOf : ℕ → Track
 trackOf op = trackBy (quickOf op)

@@ -9,7 +9,7 @@ use Rattle.quick.proofs.quick.Tie as tie
 
 -- the arms' keys, the last first
 abbrev keys : List (List ℕ)
-keys = (0xFB ∷ []) ∷ (0xF8 ∷ []) ∷ (0xF0 ∷ []) ∷ (0xED ∷ []) ∷ (0xEC ∷ []) ∷ (0xEA ∷ []) ∷ (0xE9 ∷ []) ∷ (0xE8 ∷ []) ∷ (0xE5 ∷ []) ∷ (0xE4 ∷ []) ∷ (0xE0 ∷ []) ∷ (0xD8 ∷ []) ∷ (0xD0 ∷ []) ∷ (0xCD ∷ []) ∷ (0xCC ∷ []) ∷ (0xCA ∷ []) ∷ (0xC9 ∷ []) ∷ (0xC8 ∷ []) ∷ (0xC5 ∷ []) ∷ (0xC4 ∷ []) ∷ (0xC0 ∷ []) ∷ (0xBB ∷ []) ∷ (0xBA ∷ []) ∷ (0xB8 ∷ []) ∷ (0xB0 ∷ []) ∷ (0xAE ∷ []) ∷ (0xAD ∷ []) ∷ (0xAC ∷ []) ∷ (0xAA ∷ []) ∷ (0xA9 ∷ []) ∷ (0xA8 ∷ []) ∷ (0xA6 ∷ []) ∷ (0xA5 ∷ []) ∷ (0xA4 ∷ []) ∷ (0xA2 ∷ []) ∷ (0xA0 ∷ []) ∷ (0x9C ∷ []) ∷ (0x9B ∷ []) ∷ (0x9A ∷ []) ∷ (0x98 ∷ []) ∷ (0x90 ∷ []) ∷ (0x8E ∷ []) ∷ (0x8D ∷ []) ∷ (0x8C ∷ []) ∷ (0x8A ∷ []) ∷ (0x89 ∷ []) ∷ (0x88 ∷ []) ∷ (0x86 ∷ []) ∷ (0x85 ∷ []) ∷ (0x84 ∷ []) ∷ (0x80 ∷ []) ∷ (0x7B ∷ []) ∷ (0x78 ∷ []) ∷ (0x70 ∷ []) ∷ (0x6D ∷ []) ∷ (0x6A ∷ []) ∷ (0x69 ∷ []) ∷ (0x65 ∷ []) ∷ (0x64 ∷ []) ∷ (0x5B ∷ []) ∷ (0x58 ∷ []) ∷ (0x54 ∷ []) ∷ (0x50 ∷ []) ∷ (0x4D ∷ []) ∷ (0x4C ∷ []) ∷ (0x4A ∷ []) ∷ (0x49 ∷ []) ∷ (0x45 ∷ []) ∷ (0x44 ∷ []) ∷ (0x3B ∷ []) ∷ (0x3A ∷ []) ∷ (0x38 ∷ []) ∷ (0x30 ∷ []) ∷ (0x2D ∷ []) ∷ (0x2C ∷ []) ∷ (0x2A ∷ []) ∷ (0x29 ∷ []) ∷ (0x25 ∷ []) ∷ (0x24 ∷ []) ∷ (0x1B ∷ []) ∷ (0x1A ∷ []) ∷ (0x18 ∷ []) ∷ (0x10 ∷ []) ∷ (0x0D ∷ []) ∷ (0x0A ∷ []) ∷ (0x09 ∷ []) ∷ (0x05 ∷ []) ∷ []
+keys = (0xFB ∷ []) ∷ (0xF8 ∷ []) ∷ (0xF0 ∷ []) ∷ (0xED ∷ []) ∷ (0xEC ∷ []) ∷ (0xEA ∷ []) ∷ (0xE9 ∷ []) ∷ (0xE8 ∷ []) ∷ (0xE5 ∷ []) ∷ (0xE4 ∷ []) ∷ (0xE0 ∷ []) ∷ (0xD8 ∷ []) ∷ (0xD0 ∷ []) ∷ (0xCD ∷ []) ∷ (0xCC ∷ []) ∷ (0xCA ∷ []) ∷ (0xC9 ∷ []) ∷ (0xC8 ∷ []) ∷ (0xC5 ∷ []) ∷ (0xC4 ∷ []) ∷ (0xC0 ∷ []) ∷ (0xBB ∷ []) ∷ (0xBA ∷ []) ∷ (0xB8 ∷ []) ∷ (0xB0 ∷ []) ∷ (0xAE ∷ []) ∷ (0xAD ∷ []) ∷ (0xAC ∷ []) ∷ (0xAA ∷ []) ∷ (0xA9 ∷ []) ∷ (0xA8 ∷ []) ∷ (0xA6 ∷ []) ∷ (0xA5 ∷ []) ∷ (0xA4 ∷ []) ∷ (0xA2 ∷ []) ∷ (0xA0 ∷ []) ∷ (0x9C ∷ []) ∷ (0x9B ∷ []) ∷ (0x9A ∷ []) ∷ (0x98 ∷ []) ∷ (0x90 ∷ []) ∷ (0x8E ∷ []) ∷ (0x8D ∷ []) ∷ (0x8C ∷ []) ∷ (0x8A ∷ []) ∷ (0x89 ∷ []) ∷ (0x88 ∷ []) ∷ (0x86 ∷ []) ∷ (0x85 ∷ []) ∷ (0x84 ∷ []) ∷ (0x80 ∷ []) ∷ (0x7B ∷ []) ∷ (0x78 ∷ []) ∷ (0x70 ∷ []) ∷ (0x6D ∷ []) ∷ (0x6A ∷ []) ∷ (0x69 ∷ []) ∷ (0x65 ∷ []) ∷ (0x64 ∷ []) ∷ (0x5B ∷ []) ∷ (0x58 ∷ []) ∷ (0x50 ∷ []) ∷ (0x4D ∷ []) ∷ (0x4C ∷ []) ∷ (0x4A ∷ []) ∷ (0x49 ∷ []) ∷ (0x45 ∷ []) ∷ (0x3B ∷ []) ∷ (0x3A ∷ []) ∷ (0x38 ∷ []) ∷ (0x30 ∷ []) ∷ (0x2D ∷ []) ∷ (0x2C ∷ []) ∷ (0x2A ∷ []) ∷ (0x29 ∷ []) ∷ (0x25 ∷ []) ∷ (0x24 ∷ []) ∷ (0x1B ∷ []) ∷ (0x1A ∷ []) ∷ (0x18 ∷ []) ∷ (0x10 ∷ []) ∷ (0x0D ∷ []) ∷ (0x0A ∷ []) ∷ (0x09 ∷ []) ∷ (0x05 ∷ []) ∷ []
 
 returns : tie.Need-returns
 unfolding quickOf decodeOf opcodes oneBytes
@@ -353,15 +353,7 @@ returns-85 c = sym (ap quickOf (c .match .keys85))
 
 returns-86 : tie.Need-returns-86
 unfolding quickOf decodeOf opcodes oneBytes
-returns-86 c = sym (ap quickOf (c .match .keys86))
-
-returns-87 : tie.Need-returns-87
-unfolding quickOf decodeOf opcodes oneBytes
-returns-87 c = sym (ap quickOf (c .match .keys87))
-
-returns-88 : tie.Need-returns-88
-unfolding quickOf decodeOf opcodes oneBytes
-returns-88 c = sym (slow-rest _ opcodes keys tt (c .match .rest))
+returns-86 c = sym (slow-rest _ opcodes keys tt (c .match .rest))
 
 pub quick-spec : {M : Type 1} → statement M
-quick-spec = tie.close (tie.spec returns returns-2 returns-3 returns-4 returns-5 returns-6 returns-7 returns-8 returns-9 returns-10 returns-11 returns-12 returns-13 returns-14 returns-15 returns-16 returns-17 returns-18 returns-19 returns-20 returns-21 returns-22 returns-23 returns-24 returns-25 returns-26 returns-27 returns-28 returns-29 returns-30 returns-31 returns-32 returns-33 returns-34 returns-35 returns-36 returns-37 returns-38 returns-39 returns-40 returns-41 returns-42 returns-43 returns-44 returns-45 returns-46 returns-47 returns-48 returns-49 returns-50 returns-51 returns-52 returns-53 returns-54 returns-55 returns-56 returns-57 returns-58 returns-59 returns-60 returns-61 returns-62 returns-63 returns-64 returns-65 returns-66 returns-67 returns-68 returns-69 returns-70 returns-71 returns-72 returns-73 returns-74 returns-75 returns-76 returns-77 returns-78 returns-79 returns-80 returns-81 returns-82 returns-83 returns-84 returns-85 returns-86 returns-87 returns-88)
+quick-spec = tie.close (tie.spec returns returns-2 returns-3 returns-4 returns-5 returns-6 returns-7 returns-8 returns-9 returns-10 returns-11 returns-12 returns-13 returns-14 returns-15 returns-16 returns-17 returns-18 returns-19 returns-20 returns-21 returns-22 returns-23 returns-24 returns-25 returns-26 returns-27 returns-28 returns-29 returns-30 returns-31 returns-32 returns-33 returns-34 returns-35 returns-36 returns-37 returns-38 returns-39 returns-40 returns-41 returns-42 returns-43 returns-44 returns-45 returns-46 returns-47 returns-48 returns-49 returns-50 returns-51 returns-52 returns-53 returns-54 returns-55 returns-56 returns-57 returns-58 returns-59 returns-60 returns-61 returns-62 returns-63 returns-64 returns-65 returns-66 returns-67 returns-68 returns-69 returns-70 returns-71 returns-72 returns-73 returns-74 returns-75 returns-76 returns-77 returns-78 returns-79 returns-80 returns-81 returns-82 returns-83 returns-84 returns-85 returns-86)

@@ -38,12 +38,6 @@ enum-told-2 c = search needs
 jump-requires : tie.Need-jump-requires
 jump-requires c κs = search needs
 
-enum-told-3 : tie.Need-enum-told-3
-enum-told-3 c = search needs
-
-kept-requires-2 : tie.Need-kept-requires-2
-kept-requires-2 c κs = search needs
-
 returns : tie.Need-returns
 returns c = (simp (c .kept .ensures, c .before .enum-told .given .1), simp (c .before .enum-told .given .1))
 
@@ -83,9 +77,6 @@ same-length-4 c = search needs
 returns-6 : tie.Need-returns-6
 returns-6 c = (simp (c .jump .ensures, c .before .before .enum-told2 .given .1), simp (c .before .before .enum-told2 .given .1))
 
-returns-7 : tie.Need-returns-7
-returns-7 c = (simp (c .kept2 .ensures, c .before .enum-told3 .given .1), simp (c .before .enum-told3 .given .1))
-
 pub leg-of-spec : {M : Type 1} → statement M
 leg-of-spec =
     tie.close
@@ -102,8 +93,6 @@ leg-of-spec =
     branch-requires
     enum-told-2
     jump-requires
-    enum-told-3
-    kept-requires-2
     returns
     same-length
     returns-2
@@ -113,5 +102,4 @@ leg-of-spec =
     same-length-3
     returns-5
     same-length-4
-    returns-6
-    returns-7)
+    returns-6)
