@@ -1,8 +1,8 @@
 -- The list of opcodes by number: a shape's in the high byte, an operation's in the low one.
 use Prim.Native.Nat.{ℕ}
-use mathlib.Core.Bool.{true, false}
+use mathlib.Core.Bool.{Bool, true, false, _&&_, _||_}
 use mathlib.Core.List.{List, [], _∷_}
-use lib.Dec.{eqb}
+use lib.Dec.{eqb, leb, ltb}
 use Prim.Native.Nat.{_/_, _%_}
 use lib.ListN.{getD}
 use Rattle.words.specs.Words.{pick}
@@ -35,3 +35,7 @@ operationAt n = getD operations n Plain
 -- the opcode of a number
 unfoldable pub entryAt : ℕ → Op
 entryAt n = pick (eqb n 0) Unlisted (Listed (shapeAt (n / 256)) (operationAt (n % 256)))
+
+-- the numbers that the two lists have: 30 shapes, the first place left out, and 68 operations; and 0
+abbrev pub inBook : ℕ → Bool
+inBook n = eqb n 0 || (leb 256 n && (ltb n 7936 && ltb (n % 256) 68))

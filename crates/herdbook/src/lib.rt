@@ -1,7 +1,8 @@
 // The list of opcodes as a look-up: what the loops of cycles decode by.
+ghost use mathlib.Core.Bool.{true};
 ghost use mathlib.Core.Path.{_≡_};
 ghost use Rattle.opcodes.specs.Opcodes.{decodeOf};
-ghost use Rattle.herdbook.specs.Herdbook.{shapeAt, operationAt, entryAt};
+ghost use Rattle.herdbook.specs.Herdbook.{shapeAt, operationAt, entryAt, inBook};
 use alu::types::Alu;
 use alu::types::Shift;
 use cpu::types::Cond;
@@ -12,9 +13,11 @@ use opcodes::types::Op;
 use opcodes::types::Operation;
 use opcodes::types::Shape;
 
-// An opcode's number: its shape's and, in the low byte, its operation's; 0 for a byte that isn't listed.
+// An opcode's number: its shape's and, in the low byte, its operation's; 0 for a byte that isn't listed. No shape and no
+// operation stands twice in its list, so it is one number.
 fn tag(op: u8) -> u16
     ensures { λ n. ⌜ entryAt n ≡ decodeOf op ⌝ }
+    ensures listed { λ n. ⌜ inBook n ≡ true ⌝ }
 {
     match op {
         0x05 => 0x0301,

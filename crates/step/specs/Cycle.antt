@@ -1,6 +1,7 @@
 -- A cycle, for any record whatever: the request that it makes and, for any answered byte, the record after; or the refusal.
 -- The refusals come in document 01's order: 4, then 5 and 6 of a held opcode, last 5 of a fetched byte.
 use Prim.Native.Nat.{ℕ}
+use mathlib.Core.Bool.{Bool}
 use Rattle.words.specs.Words.{pick}
 use Rattle.cpu.specs.Record.{wellFormed, midOf, regsOf, underWay}
 use Rattle.cpu.specs.declared.types.Record.{Record}
@@ -26,9 +27,12 @@ wellMicro r = pick (r .held) (heldMicro (decodeOf (r .ir)) (r .flags) (r .d) (r 
 unfoldable pub microOf : Record → Micro
 microOf r = pick (wellFormed r) (wellMicro r) (Refuse Malformed)
 
--- the opcode's byte: the first cycle of its instruction comes next
+-- the opcode's byte: where it is known, the first cycle of its instruction comes next
+abbrev pub begunIf : Bool → Record → ℕ → Answer
+begunIf known r b = pick known (Next (underWay b 1 (r .pbr) (regsOf r) (past (midOf r)))) (Refused Unlisted)
+
 abbrev pub begun : Op → Record → ℕ → Answer
-begun o r b = pick (isListed o) (Next (underWay b 1 (r .pbr) (regsOf r) (past (midOf r)))) (Refused Unlisted)
+begun o r b = begunIf (isListed o) r b
 
 abbrev pub askedBy : Micro → Record → Asked
 askedBy (Refuse n) r = No n

@@ -1,8 +1,9 @@
-// The two entries of a cycle: the request of a record, and the record after the answered byte.
+// The two entries of a cycle: the request of a record, and the record after the answered byte. They decode by the one match,
+// and the table of shapes says which fetched bytes are listed.
 // Whoever runs many cycles works out `well_micro` once a cycle; crates/memory takes it apart once, and does both halves by it.
 ghost use mathlib.Core.Path.{_≡_};
 ghost use Rattle.opcodes.specs.Opcodes.{decodeOf};
-ghost use Rattle.step.specs.Cycle.{wellMicro, microOf, begun, askedBy, answeredBy, requestOf, answerOf};
+ghost use Rattle.step.specs.Cycle.{wellMicro, microOf, begunIf, begun, askedBy, answeredBy, requestOf, answerOf};
 use act::arrive::act;
 use bus::ask;
 use bus::code;
@@ -17,10 +18,12 @@ use cpu::types::Kind;
 use cpu::types::Record;
 use cpu::types::Refusal;
 use cycles::types::Micro;
+use decode::decode;
 use herdbook::entry;
 use mid::step_pc;
 use opcodes::opcode::listed;
 use phase::held_micro;
+use shapes::shape_of;
 
 // What a well-formed record's next cycle does: refusals 5 and 6 of a held opcode.
 pub fn well_micro(r: Record) -> Micro
@@ -47,16 +50,40 @@ pub fn next_micro(r: Record) -> Micro
     }
 }
 
-// The opcode's byte: the first cycle of its instruction comes next, or refusal 5.
-pub fn begin(r: Record, b: u8) -> Answer
-    ensures { λ n. ⌜ n ≡ begun (decodeOf b) r b ⌝ }
+// The same by the plain decode, for the two entries.
+fn decoded_micro(r: Record) -> Micro
+    ensures { λ m. ⌜ m ≡ microOf r ⌝ }
 {
-    let known = listed(b);
+    let well = well_formed(r);
+    let held = r.held;
+    if well {
+        if held {
+            let f = r.flags;
+            held_micro(decode(r.ir), f, r.d, r.tcu)
+        } else {
+            Micro::Fetch
+        }
+    } else {
+        Micro::Refuse(Refusal::Malformed)
+    }
+}
+
+// The opcode's byte, once it is known whether it is listed.
+fn begin_if(known: bool, r: Record, b: u8) -> Answer
+    ensures { λ n. ⌜ n ≡ begunIf known r b ⌝ }
+{
     if known {
         Answer::Next(under_way(b, 1, r.pbr, regs(r), step_pc(mid(r))))
     } else {
         Answer::Refused(Refusal::Unlisted)
     }
+}
+
+// The opcode's byte: the first cycle of its instruction comes next, or refusal 5. The loops call it, so it looks at no table.
+pub fn begin(r: Record, b: u8) -> Answer
+    ensures { λ n. ⌜ n ≡ begun (decodeOf b) r b ⌝ }
+{
+    begin_if(listed(b), r, b)
 }
 
 // What a cycle asks, once it is known what it does.
@@ -85,12 +112,16 @@ pub fn answer_at(r: Record, m: Micro, b: u8) -> Answer
 pub fn request(r: Record) -> Asked
     ensures { λ q. ⌜ q ≡ requestOf r ⌝ }
 {
-    request_at(r, next_micro(r))
+    request_at(r, decoded_micro(r))
 }
 
 // The record after the answered byte, or the refusal: 4, 5 or 6. After a write the byte is ignored.
 pub fn answer(r: Record, b: u8) -> Answer
     ensures { λ n. ⌜ n ≡ answerOf r b ⌝ }
 {
-    answer_at(r, next_micro(r), b)
+    let m = decoded_micro(r);
+    let Micro::Fetch = m else {
+        return answer_at(r, m, b);
+    };
+    begin_if(shape_of(b) != 0, r, b)
 }

@@ -1,3 +1,1 @@
-pub mod Every
-pub mod ShapeTable
 pub mod CountTable

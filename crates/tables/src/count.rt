@@ -5,11 +5,11 @@ ghost use Rattle.words.specs.Words.{pick};
 ghost use Rattle.cycles.specs.Cycles.{unaligned};
 ghost use Rattle.opcodes.specs.Opcodes.{decodeOf};
 ghost use Rattle.tables.specs.Counts.{columnAt, wideAt, countAt, lengthAt};
-use crate::shape::shape_of;
 use decode::decode;
 use flags::Flags;
 use opcodes::operation::is_wide_operation;
 use opcodes::types::Op;
+use shapes::shape_of;
 
 // A row for each shape's number, from 0, which is no shape: cycles, cycles more where it is wide, cycles more where the
 // low byte of D isn't 0, bytes, bytes more where it is wide.

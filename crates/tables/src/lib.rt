@@ -1,3 +1,2 @@
-// The two constant tables: the shape of each byte, and the counts and lengths by shape.
+// The constant table of counts and lengths by shape; that of shapes by byte is crates/shapes.
 pub mod count;
-pub mod shape;

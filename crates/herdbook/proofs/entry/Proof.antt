@@ -28,14 +28,14 @@ operation-requires c κs = search needs
 
 returns : tie.Need-returns
 unfolding entryAt
-returns c = sym (ap entryAt (c .if1 .taken)) ∙ c .before .tag .ensures
+returns c = sym (ap entryAt (c .if1 .taken)) ∙ c .before .tag .ensures .0
 
 returns-2 : tie.Need-returns-2
 returns-2 c =
     ap (λ (s : Shape). Listed s (c .operation .result)) (c .before .shape .ensures)
     ∙ ap (Listed (shapeAt (c .before .before .before .tag .result / 256))) (c .operation .ensures)
     ∙ sym (listed _ (c .before .before .if1 .left))
-    ∙ c .before .before .before .tag .ensures
+    ∙ c .before .before .before .tag .ensures .0
 
 pub entry-spec : {M : Type 1} → statement M
 entry-spec = tie.close (tie.spec tag-requires shape-requires operation-requires returns returns-2)

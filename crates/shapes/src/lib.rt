@@ -2,7 +2,7 @@
 ghost use mathlib.Core.Path.{_≡_};
 ghost use Prim.Native.Nat.{_<_};
 ghost use Rattle.opcodes.specs.Opcodes.{decodeOf};
-ghost use Rattle.tables.specs.Shapes.{shapeNumber};
+ghost use Rattle.shapes.specs.Shapes.{shapeNumber};
 
 // For each byte the number of its shape, in the order of the enum Shape; 0 where it isn't listed.
 const SHAPES: [u8; 256] = [

@@ -11,8 +11,8 @@ use Rattle.opcodes.specs.declared.types.Op.{Op}
 use Rattle.opcodes.specs.declared.types.Op.the-variants.{Unlisted, Listed}
 use Rattle.opcodes.specs.declared.types.Shape.{Shape}
 use Rattle.opcodes.specs.declared.types.Shape.the-variants.{Immediate, Absolute, Direct, StoreAbsolute, StoreDirect, Implied, Xba, Mask, Wdm, Push, Pull, PullP, PullB, PullD, Pea, Pei, Per, Jump, JumpLong, JumpIndirect, JumpIndirectLong, JumpIndexed, Call, CallIndexed, CallLong, Return, ReturnLong, Branch, BranchLong, Move}
-use Rattle.tables.specs.Shapes.{shapeNumber, numberOfShape}
-use Rattle.tables.proofs.Every.{at}
+use Rattle.shapes.specs.Shapes.{shapeNumber, numberOfShape}
+use Rattle.shapes.proofs.Every.{at}
 
 abbrev pub shapes : List ℕ
 shapes =

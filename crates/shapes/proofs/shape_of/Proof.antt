@@ -2,9 +2,9 @@ use borrow.Author.Needs.{needs}
 use Prim.Native.Nat.{ℕ, _<_}
 use mathlib.Core.Path.{subst⁻¹}
 use Rattle.opcodes.specs.Opcodes.{decodeOf}
-use Rattle.tables.proofs.ShapeTable.{shapes-table, number-small}
-use Rattle.tables.proofs.shape.shape_of.Statement.{statement}
-use Rattle.tables.proofs.shape.shape_of.Tie as tie
+use Rattle.shapes.proofs.ShapeTable.{shapes-table, number-small}
+use Rattle.shapes.proofs.shape_of.Statement.{statement}
+use Rattle.shapes.proofs.shape_of.Tie as tie
 
 array-read-result : tie.Need-array-read-result
 array-read-result c = search needs
