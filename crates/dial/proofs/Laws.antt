@@ -12,7 +12,7 @@ use Rattle.cpu.specs.declared.types.Kind.{Kind}
 use Rattle.cpu.specs.declared.types.Kind.the-variants.{Opcode, Program, Data, Invalid}
 use Rattle.trace.specs.Text.{hexDigit, hex2, hex6, letter, direction, lineText}
 use Rattle.trace.proofs.Decimal.{lt-or-ge}
-use Rattle.dial.specs.Dial.{packed, bytesOf, frontOf, ofTens, dialOf, turnOf, tailText, nearText, marksOf}
+use Rattle.dial.specs.Dial.{packed, bytesOf, frontOf, ofTens, dialOf, turnOf, tailText, nearText, rowText, marksOf}
 use Rattle.dial.proofs.Packing.{Bytes, bytes-append, bytes-packed, bytes-length, bytes-fewer}
 use Rattle.dial.proofs.Overlay.{three-words}
 use Rattle.dial.proofs.Front.{decimal-front, front-short, front-bytes}
@@ -96,11 +96,15 @@ tail-again p b h k =
     bytes-append (hex2 (p % 256)) (9 ∷ (hex2 b ++ (10 ∷ []))) (hex-bytes (p % 256) (omega arith)) byte in
     bytes-packed (tailText p b) (bytes-append (hex2 (p / 256)) (hex2 (p % 256) ++ (9 ∷ (hex2 b ++ (10 ∷ [])))) (hex-bytes (p / 256) (omega arith)) low)
 
-pub near-stored : (t : List ℕ) (i f w l m p b : ℕ) → w < 8 → p < 65536 → b < 256
-    → sets (sets (set (sets t i (bytesOf 8 f)) (i + w) l) (i + w + 1) (bytesOf 8 m)) (i + w + 8) (bytesOf 8 (packed (tailText p b)))
-    ≡ sets t i (nearText f w l m p b)
+pub row-near : (f w l m p b : ℕ) → p < 65536 → b < 256 → rowText f w l m (packed (tailText p b)) ≡ nearText f w l m p b
 unfolding nearText
-near-stored t i f w l m p b h hp hb =
-    three-words (bytesOf 8 f) (bytesOf 8 m) (bytesOf 8 (packed (tailText p b))) t i w l refl refl refl h
-    ∙ ap (λ (x : List ℕ). sets t i (x ++ (l ∷ (bytesOf 7 m ++ bytesOf 8 (packed (tailText p b)))))) (bytes-fewer w 8 f (omega arith))
-    ∙ ap (λ (x : List ℕ). sets t i (bytesOf w f ++ (l ∷ (bytesOf 7 m ++ x)))) (tail-again p b hp hb)
+row-near f w l m p b h k = ap (λ (x : List ℕ). bytesOf w f ++ (l ∷ (bytesOf 7 m ++ x))) (tail-again p b h k)
+
+pub row-stored : (t : List ℕ) (i f w l m e : ℕ) → w < 8
+    → sets (sets (set (sets t i (bytesOf 8 f)) (i + w) l) (i + w + 1) (bytesOf 8 m)) (i + w + 8) (bytesOf 8 e) ≡ sets t i (rowText f w l m e)
+row-stored t i f w l m e h =
+    three-words (bytesOf 8 f) (bytesOf 8 m) (bytesOf 8 e) t i w l refl refl refl h
+    ∙ ap (λ (x : List ℕ). sets t i (x ++ (l ∷ (bytesOf 7 m ++ bytesOf 8 e)))) (bytes-fewer w 8 f (omega arith))
+
+pub row-length : (f w l m e : ℕ) → length (rowText f w l m e) ≡ w + 16
+row-length f w l m e = omega (arith, length-append (bytesOf w f) ((l ∷ []) ++ (bytesOf 7 m ++ bytesOf 8 e)), bytes-length w f)

@@ -60,6 +60,10 @@ tailText p b = hex2 (p / 256) ++ (hex2 (p % 256) ++ ((9 ∷ []) ++ (hex2 b ++ (1
 unfoldable pub nearText : (front width last marks p b : ℕ) → List ℕ
 nearText f w l m p b = bytesOf w f ++ ((l ∷ []) ++ (bytesOf 7 m ++ tailText p b))
 
+-- the same with its end as a word
+abbrev pub rowText : (front width last marks end : ℕ) → List ℕ
+rowText f w l m e = bytesOf w f ++ ((l ∷ []) ++ (bytesOf 7 m ++ bytesOf 8 e))
+
 -- kind and direction with the tabs around them, and the two zeros of bank 0
 unfoldable pub marksOf : Kind → Bool → ℕ
 marksOf k w = packed (9 ∷ letter k ∷ 9 ∷ direction w ∷ 9 ∷ 48 ∷ 48 ∷ [])

@@ -11,11 +11,11 @@ use borrow.Author.Tests.{lt-ltb, eq-eqb, le-leb, eqb-true, leb-true}
 use Rattle.words.specs.Words.{pick, word, inc, up, sum16}
 use Rattle.cpu.specs.declared.types.Kind.{Kind}
 use Rattle.cpu.specs.declared.types.Request.{Request}
-use Rattle.trace.specs.Text.{lineText, linesText, Put, Wrote}
-use Rattle.trace.proofs.Laws.{then, put-fits, wrote-none, wrote-length}
-use Rattle.dial.specs.Dial.{dialOf, turnOf, marksOf, nearText}
+use Rattle.trace.specs.Text.{lineText, linesText, Wrote}
+use Rattle.trace.proofs.Laws.{then, wrote-none, wrote-length}
+use Rattle.dial.specs.Dial.{packed, dialOf, turnOf, marksOf, tailText, nearText, rowText}
 use Rattle.dial.specs.declared.Dial.{Dial}
-use Rattle.dial.proofs.Laws.{near-line, near-length, turn-on}
+use Rattle.dial.proofs.Laws.{near-line, near-length, row-near, turn-on}
 use Rattle.tracks.specs.Tracks.{isDirect, middles, upTo, placeBy, trackLines, haulLines}
 use Rattle.tracks.specs.declared.types.Track.{Track}
 use Rattle.prints.specs.Prints.{Drawn, mark, printed, turnsOf, ready}
@@ -52,8 +52,8 @@ drawn-then t t₁ t₂ m a o xs ys p q =
     }
 
 -- one line, by the dial
-module _ (t t′ : List ℕ) (m : Mark) (q : ℕ) (d : Dial) (k : Kind) (w : Bool) (p b : ℕ) (room : m .place + 23 ≤ length t)
-    (put : Put t t′ (m .place) q (nearText (m .dial .front) (m .dial .width % 8) (m .dial .last) (marksOf k w) p b)) (turns : d ≡ turnOf (m .dial)) where
+module _ (t t′ : List ℕ) (m : Mark) (q : ℕ) (d : Dial) (k : Kind) (w : Bool) (p b : ℕ) (low : p < 65536) (small : b < 256)
+    (put : Wrote t t′ (m .place) q (rowText (m .dial .front) (m .dial .width % 8) (m .dial .last) (marksOf k w) (packed (tailText p b)))) (turns : d ≡ turnOf (m .dial)) where
   abbrev line : Request
   line = record { write = w; kind = k; addr = p; byte = b }
 
@@ -63,12 +63,11 @@ module _ (t t′ : List ℕ) (m : Mark) (q : ℕ) (d : Dial) (k : Kind) (w : Boo
   near-small : length (near (m .dial)) ≤ 23
   near-small = omega (arith, near-length (m .dial .front) (m .dial .width % 8) (m .dial .last) (marksOf k w) p b)
 
-  near-fits : m .place + length (near (m .dial)) ≤ length t
-  near-fits = omega (arith, room, near-small)
-
   pub drawn-line : Drawn t t′ m (mark d q) (line ∷ [])
   drawn-line =
-      let f : Wrote t t′ (m .place) q (near (m .dial)) = put-fits near-fits put in record {
+      let f : Wrote t t′ (m .place) q (near (m .dial)) =
+      subst (Wrote t t′ (m .place) q) (row-near (m .dial .front) (m .dial .width % 8) (m .dial .last) (marksOf k w) p b low small) put in
+      record {
         wrote = subst (Wrote t t′ (m .place) q) (sym (append-nil (near (m .dial)))) f;
         dial = turns;
         near = omega (arith, near-small, f .place);

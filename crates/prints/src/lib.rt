@@ -2,19 +2,21 @@
 ghost use mathlib.Core.Path.{_≡_};
 ghost use mathlib.Core.Bool.{false, _&&_};
 ghost use mathlib.Core.List.{[], _∷_};
-ghost use Prim.Native.Nat.{_+_, _≤_};
+ghost use Prim.Native.Nat.{_+_, _%_, _≤_};
 ghost use lib.Dec.{eqb, leb};
 ghost use lib.ListN.{length, getD};
+ghost use lib.Seq.{sets};
 ghost use Rattle.words.specs.Words.{pick, inc};
 ghost use Rattle.cpu.specs.declared.types.Kind.the-variants.{Opcode, Data};
 ghost use Rattle.cycles.specs.Cycles.{unaligned};
 ghost use Rattle.tracks.specs.Tracks.{reads, datum, second, upTo, trackLines, placeBy, haulLines};
-ghost use Rattle.dial.specs.Dial.{marksOf};
+ghost use Rattle.trace.specs.Text.{Wrote};
+ghost use Rattle.dial.specs.Dial.{bytesOf, rowText, marksOf};
 ghost use Rattle.prints.specs.Prints.{Drawn, mark, ready};
 use cpu::registers::choose;
 use cpu::types::Kind;
 use dial::Dial;
-use dial::put_near;
+use dial::tail;
 use dial::turned;
 use trace::has_room;
 use tracks::between;
@@ -67,6 +69,43 @@ pub fn mark_of(dial: Dial, place: usize) -> Mark
     }
 }
 
+// Eight bytes of a word, the lowest first; the compiler makes one store of them.
+fn put_word(text: &mut [u8], at: usize, v: u64)
+    requires { ⌜ at + 8 ≤ length (now text) ⌝ }
+    ensures { λ _. ⌜ now (text .exit) ≡ sets (now (text .entry)) at (bytesOf 8 v) ⌝ }
+{
+    text[at] = (v % 256) as u8;
+    text[at + 1] = (v / 256 % 256) as u8;
+    text[at + 2] = (v / 65536 % 256) as u8;
+    text[at + 3] = (v / 16777216 % 256) as u8;
+    text[at + 4] = (v / 4294967296 % 256) as u8;
+    text[at + 5] = (v / 1099511627776 % 256) as u8;
+    text[at + 6] = (v / 281474976710656 % 256) as u8;
+    text[at + 7] = (v / 72057594037927936) as u8;
+}
+
+// A line by its dial, its marks and its end at a place of the text, and the place after it.
+// Each word is wider than its part of the line: what follows lies over the rest of it.
+fn put_near(
+    text: &mut [u8],
+    at: usize,
+    front: u64,
+    width: usize,
+    last: u8,
+    marks: u64,
+    end: u64,
+) -> usize
+    requires { ⌜ at + 23 ≤ length (now text) ⌝ }
+    ensures { λ r. ⌜ Wrote (now (text .entry)) (now (text .exit)) at r (rowText front (width % 8) last marks end) ⌝ }
+{
+    let w = width % 8;
+    put_word(text, at, front);
+    text[at + w] = last;
+    put_word(text, at + w + 1, marks);
+    put_word(text, at + w + 8, end);
+    at + w + 16
+}
+
 // The line of a byte that is read.
 fn fetch(text: &mut [u8], m: Mark, kind: Kind, p: u16, byte: u8) -> Mark
     requires { ⌜ m .place + 23 ≤ length (now text) ⌝ }
@@ -80,8 +119,7 @@ fn fetch(text: &mut [u8], m: Mark, kind: Kind, p: u16, byte: u8) -> Mark
         d.width,
         d.last,
         marks(kind),
-        p,
-        byte,
+        tail(p, byte),
     );
     mark_of(turned(d), q)
 }
@@ -99,8 +137,7 @@ fn datum_line(text: &mut [u8], m: Mark, store: bool, p: u16, mem: &[u8]) -> Mark
         d.width,
         d.last,
         data_marks(store),
-        p,
-        mem[p as usize],
+        tail(p, mem[p as usize]),
     );
     mark_of(turned(d), q)
 }

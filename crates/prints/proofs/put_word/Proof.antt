@@ -3,9 +3,9 @@ use Prim.Native.Nat.{suc, _+_}
 use mathlib.Core.Path.{_≡_}
 use native.Mathlib.Omega.{arith}
 use lib.ListN.{length-set}
 use Rattle.dial.proofs.Packing.{word-stored}
-use Rattle.dial.proofs.put_word.Statement.{statement}
-use Rattle.dial.proofs.put_word.Tie as tie
+use Rattle.prints.proofs.put_word.Statement.{statement}
+use Rattle.prints.proofs.put_word.Tie as tie
 
 cast-text : tie.Need-cast-text
 cast-text c = search needs
