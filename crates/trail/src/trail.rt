@@ -8,6 +8,7 @@ ghost use Rattle.words.specs.Words.{inc};
 ghost use Rattle.cpu.specs.Record.{wellFormed};
 ghost use Rattle.stride.specs.Strides.{fresh};
 ghost use Rattle.run.specs.Runs.{runOf, size, most};
+ghost use Rattle.run.specs.Far.{stridesFar, haulsFar, aheadFar};
 ghost use Rattle.trail.specs.Trails.{walk, toldAs, Walked, Listed, trailOf};
 use crate::types::Bytes;
 use crate::types::Told;
@@ -76,6 +77,7 @@ fn strides(
     requires { ⌜ (number + budget ≤ most + 1) × (start + 22 * budget ≤ length (now text)) ⌝ }
     ensures { λ w. ⌜ Walked r (now (mem .entry)) (now (text .entry)) number start w (now (mem .exit)) (now (text .exit)) ⌝ }
     ensures less { λ w. ⌜ w .cycles < budget ⌝ }
+    ensures far { λ w. ⌜ w .cycles ≡ stridesFar budget r (now (mem .entry)) ⌝ }
 {
     let mut at = cleared(r);
     let mut m = mark_of(dial_of(number), start);
@@ -112,6 +114,7 @@ fn hauls(r: Record, mem: &mut [u8], text: &mut [u8], start: usize, number: u32, 
     requires { ⌜ (number + budget ≤ most + 1) × (start + 22 * budget ≤ length (now text)) ⌝ }
     ensures { λ w. ⌜ Walked r (now (mem .entry)) (now (text .entry)) number start w (now (mem .exit)) (now (text .exit)) ⌝ }
     ensures less { λ w. ⌜ w .cycles < budget ⌝ }
+    ensures far { λ w. ⌜ w .cycles ≡ haulsFar budget r (now (mem .entry)) ⌝ }
 {
     let mut at = r;
     let mut m = mark_of(dial_of(number), start);
@@ -139,6 +142,7 @@ fn ahead(r: Record, mem: &mut [u8], text: &mut [u8], start: usize, number: u32, 
     requires { ⌜ (number + budget ≤ most + 1) × (start + 22 * budget ≤ length (now text)) ⌝ }
     ensures { λ w. ⌜ Walked r (now (mem .entry)) (now (text .entry)) number start w (now (mem .exit)) (now (text .exit)) ⌝ }
     ensures less { λ w. ⌜ w .cycles < budget ⌝ }
+    ensures far { λ w. ⌜ w .cycles ≡ aheadFar budget r (now (mem .entry)) ⌝ }
 {
     let fresh = is_fresh(r);
     if fresh {

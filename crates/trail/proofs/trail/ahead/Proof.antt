@@ -1,5 +1,6 @@
 use mathlib.Core.Path.{sym, _∙_}
 use borrow.Author.Needs.{needs}
+use Rattle.run.proofs.Far.{far-fresh, far-not-fresh}
 use Rattle.trail.proofs.trail.ahead.Statement.{statement}
 use Rattle.trail.proofs.trail.ahead.Tie as tie
 
@@ -21,7 +22,9 @@ same-length-2 : tie.Need-same-length-2
 same-length-2 c = search needs
 
 returns : tie.Need-returns
-returns c = search needs
+returns c =
+    let s = c .before .before .before .before .strides .ensures in
+    (s .0, (s .1 .0, s .1 .1 ∙ sym (far-fresh _ _ _ (sym (c .before .before .before .before .before .before .before .before .is-fresh .ensures) ∙ c .before .before .before .before .before .before .before .if1 .taken))))
 
 same-length-3 : tie.Need-same-length-3
 same-length-3 c = search needs
@@ -30,7 +33,9 @@ same-length-4 : tie.Need-same-length-4
 same-length-4 c = search needs
 
 returns-2 : tie.Need-returns-2
-returns-2 c = search needs
+returns-2 c =
+    let s = c .before .before .before .before .hauls .ensures in
+    (s .0, (s .1 .0, s .1 .1 ∙ sym (far-not-fresh _ _ _ (sym (c .before .before .before .before .before .before .before .before .is-fresh .ensures) ∙ c .before .before .before .before .before .before .before .if1 .left))))
 
 pub ahead-spec : {M : Type 1} → statement M
 ahead-spec =

@@ -34,7 +34,7 @@ ahead-requires c κs =
     ((i .bank ∙ h .0 .0, i .well, omega (arith, n)), (omega (arith, n, h .1 .0), i .room))
 
 add-done : tie.Need-add-done Inv-loop μ-loop
-add-done c = omega (arith, c .before .before .before .before .before .before .ahead .ensures .1, c .before .before .before .before .before .before .before .before .before .loop-test .taken, c .before .before .before .before .before .before .before .before .before .before .before .before .before .pre .1 .0)
+add-done c = omega (arith, c .before .before .before .before .before .before .ahead .ensures .1 .0, c .before .before .before .before .before .before .before .before .before .loop-test .taken, c .before .before .before .before .before .before .before .before .before .before .before .before .before .pre .1 .0)
 
 well-micro-requires : tie.Need-well-micro-requires Inv-loop μ-loop
 well-micro-requires c κs = search needs
@@ -56,47 +56,47 @@ told-requires c κs = search needs
 
 same-length : tie.Need-same-length Inv-loop μ-loop
 same-length c =
-    let z = going-ahead _ _ _ _ _ _ _ _ _ _ _ (c .before .before .before .before .before .before .before .before .before .before .before .before .before .before .before .before .before .before .before .loop .inv) _ _ _ (c .before .before .before .before .before .before .before .before .before .before .before .before .before .before .before .before .before .before .before .before .before .before .pre .1 .0) (c .before .before .before .before .before .before .before .before .before .before .before .before .before .before .before .ahead .ensures .0) (c .before .before .before .before .before .before .before .before .before .before .before .before .before .before .before .ahead .ensures .1) in
+    let z = going-ahead _ _ _ _ _ _ _ _ _ _ _ (c .before .before .before .before .before .before .before .before .before .before .before .before .before .before .before .before .before .before .before .loop .inv) _ _ _ (c .before .before .before .before .before .before .before .before .before .before .before .before .before .before .before .before .before .before .before .before .before .before .pre .1 .0) (c .before .before .before .before .before .before .before .before .before .before .before .before .before .before .before .ahead .ensures .0) (c .before .before .before .before .before .before .before .before .before .before .before .before .before .before .before .ahead .ensures .1 .0) in
     omega (arith, c .before .before .before .before .before .before .turn .kept .1 .1 .0, z .bank)
 
 same-length-2 : tie.Need-same-length-2 Inv-loop μ-loop
 same-length-2 c =
-    let z = going-ahead _ _ _ _ _ _ _ _ _ _ _ (c .before .before .before .before .before .before .before .before .before .before .before .before .before .before .before .before .before .before .before .loop .inv) _ _ _ (c .before .before .before .before .before .before .before .before .before .before .before .before .before .before .before .before .before .before .before .before .before .before .pre .1 .0) (c .before .before .before .before .before .before .before .before .before .before .before .before .before .before .before .ahead .ensures .0) (c .before .before .before .before .before .before .before .before .before .before .before .before .before .before .before .ahead .ensures .1) in
+    let z = going-ahead _ _ _ _ _ _ _ _ _ _ _ (c .before .before .before .before .before .before .before .before .before .before .before .before .before .before .before .before .before .before .before .loop .inv) _ _ _ (c .before .before .before .before .before .before .before .before .before .before .before .before .before .before .before .before .before .before .before .before .before .before .pre .1 .0) (c .before .before .before .before .before .before .before .before .before .before .before .before .before .before .before .ahead .ensures .0) (c .before .before .before .before .before .before .before .before .before .before .before .before .before .before .before .ahead .ensures .1 .0) in
     omega (arith, z .size)
 
 returns : tie.Need-returns Inv-loop μ-loop
 returns c =
-    let z = going-ahead _ _ _ _ _ _ _ _ _ _ _ (c .before .before .before .before .before .before .before .before .before .before .before .before .before .before .before .before .before .before .before .loop .inv) _ _ _ (c .before .before .before .before .before .before .before .before .before .before .before .before .before .before .before .before .before .before .before .before .before .before .pre .1 .0) (c .before .before .before .before .before .before .before .before .before .before .before .before .before .before .before .ahead .ensures .0) (c .before .before .before .before .before .before .before .before .before .before .before .before .before .before .before .ahead .ensures .1) in
+    let z = going-ahead _ _ _ _ _ _ _ _ _ _ _ (c .before .before .before .before .before .before .before .before .before .before .before .before .before .before .before .before .before .before .before .loop .inv) _ _ _ (c .before .before .before .before .before .before .before .before .before .before .before .before .before .before .before .before .before .before .before .before .before .before .pre .1 .0) (c .before .before .before .before .before .before .before .before .before .before .before .before .before .before .before .ahead .ensures .0) (c .before .before .before .before .before .before .before .before .before .before .before .before .before .before .before .ahead .ensures .1 .0) in
     let y = c .before .before .before .before .before .before .turn .ensures in
     let t = turned _ _ _ _ (z .well) (c .before .before .before .before .before .before .before .before .well-micro .ensures) (y .0) in
     let u = c .before .before .enum-told .given .1 in
-    rw (c .told .ensures, c .before .refused-by .ensures, u) (going-stop _ _ _ _ _ _ _ _ _ _ _ z _ _ _ (one-more _ _ _ (c .before .before .before .before .before .before .before .before .before .before .before .before .before .before .before .ahead .ensures .1)) t (y .1) u)
+    rw (c .told .ensures, c .before .refused-by .ensures, u) (going-stop _ _ _ _ _ _ _ _ _ _ _ z _ _ _ (one-more _ _ _ (c .before .before .before .before .before .before .before .before .before .before .before .before .before .before .before .ahead .ensures .1 .0)) t (y .1) u)
 
 add-put-line : tie.Need-add-put-line Inv-loop μ-loop
-add-put-line c = omega (arith, c .before .before .before .before .before .before .before .before .before .before .before .before .before .before .before .ahead .ensures .1, c .before .before .before .before .before .before .before .before .before .before .before .before .before .before .before .before .before .before .loop-test .taken, c .before .before .before .before .before .before .before .before .before .before .before .before .before .before .before .before .before .before .before .before .before .before .pre .1 .0)
+add-put-line c = omega (arith, c .before .before .before .before .before .before .before .before .before .before .before .before .before .before .before .ahead .ensures .1 .0, c .before .before .before .before .before .before .before .before .before .before .before .before .before .before .before .before .before .before .loop-test .taken, c .before .before .before .before .before .before .before .before .before .before .before .before .before .before .before .before .before .before .before .before .before .before .pre .1 .0)
 
 add-put-line-2 : tie.Need-add-put-line-2 Inv-loop μ-loop
-add-put-line-2 c = omega (arith, c .before .before .before .before .before .before .before .before .before .before .before .before .before .before .before .ahead .ensures .1, c .before .before .before .before .before .before .before .before .before .before .before .before .before .before .before .before .before .before .loop-test .taken, c .before .before .before .before .before .before .before .before .before .before .before .before .before .before .before .before .before .before .before .before .before .before .pre .1 .0)
+add-put-line-2 c = omega (arith, c .before .before .before .before .before .before .before .before .before .before .before .before .before .before .before .ahead .ensures .1 .0, c .before .before .before .before .before .before .before .before .before .before .before .before .before .before .before .before .before .before .loop-test .taken, c .before .before .before .before .before .before .before .before .before .before .before .before .before .before .before .before .before .before .before .before .before .before .pre .1 .0)
 
 put-line-requires : tie.Need-put-line-requires Inv-loop μ-loop
 put-line-requires c κs = search needs
 
 add-done-2 : tie.Need-add-done-2 Inv-loop μ-loop
-add-done-2 c = omega (arith, c .before .before .before .before .before .before .before .before .before .before .before .before .before .before .before .before .before .before .ahead .ensures .1, c .before .before .before .before .before .before .before .before .before .before .before .before .before .before .before .before .before .before .before .before .before .loop-test .taken, c .before .before .before .before .before .before .before .before .before .before .before .before .before .before .before .before .before .before .before .before .before .before .before .before .before .pre .1 .0)
+add-done-2 c = omega (arith, c .before .before .before .before .before .before .before .before .before .before .before .before .before .before .before .before .before .before .ahead .ensures .1 .0, c .before .before .before .before .before .before .before .before .before .before .before .before .before .before .before .before .before .before .before .before .before .loop-test .taken, c .before .before .before .before .before .before .before .before .before .before .before .before .before .before .before .before .before .before .before .before .before .before .before .before .before .pre .1 .0)
 
 loop-less : tie.Need-loop-less Inv-loop μ-loop
-loop-less c = omega (arith, c .before .before .before .before .before .before .before .before .before .before .before .before .before .before .before .before .before .before .ahead .ensures .1, c .before .before .before .before .before .before .before .before .before .before .before .before .before .before .before .before .before .before .before .before .before .loop-test .taken)
+loop-less c = omega (arith, c .before .before .before .before .before .before .before .before .before .before .before .before .before .before .before .before .before .before .ahead .ensures .1 .0, c .before .before .before .before .before .before .before .before .before .before .before .before .before .before .before .before .before .before .before .before .before .loop-test .taken)
 
 loop-again : tie.Need-loop-again Inv-loop μ-loop
 loop-again c =
-    let z = going-ahead _ _ _ _ _ _ _ _ _ _ _ (c .before .before .before .before .before .before .before .before .before .before .before .before .before .before .before .before .before .before .before .before .before .before .loop .inv) _ _ _ (c .before .before .before .before .before .before .before .before .before .before .before .before .before .before .before .before .before .before .before .before .before .before .before .before .before .pre .1 .0) (c .before .before .before .before .before .before .before .before .before .before .before .before .before .before .before .before .before .before .ahead .ensures .0) (c .before .before .before .before .before .before .before .before .before .before .before .before .before .before .before .before .before .before .ahead .ensures .1) in
+    let z = going-ahead _ _ _ _ _ _ _ _ _ _ _ (c .before .before .before .before .before .before .before .before .before .before .before .before .before .before .before .before .before .before .before .before .before .before .loop .inv) _ _ _ (c .before .before .before .before .before .before .before .before .before .before .before .before .before .before .before .before .before .before .before .before .before .before .before .before .before .pre .1 .0) (c .before .before .before .before .before .before .before .before .before .before .before .before .before .before .before .before .before .before .ahead .ensures .0) (c .before .before .before .before .before .before .before .before .before .before .before .before .before .before .before .before .before .before .ahead .ensures .1 .0) in
     let y = c .before .before .before .before .before .before .before .before .before .turn .ensures in
     let t = turned _ _ _ _ (z .well) (c .before .before .before .before .before .before .before .before .before .before .before .well-micro .ensures) (y .0) in
     going-on
     _ _ _ _ _ _ _ _ _ _ _
     z
     _ _ _ _ _ _
-    (one-more _ _ _ (c .before .before .before .before .before .before .before .before .before .before .before .before .before .before .before .before .before .before .ahead .ensures .1))
+    (one-more _ _ _ (c .before .before .before .before .before .before .before .before .before .before .before .before .before .before .before .before .before .before .ahead .ensures .1 .0))
     (c .before .before .before .before .before .before .before .before .before .before .before .before .before .before .before .before .before .before .before .before .before .before .before .before .before .pre .1 .0)
     t
     (y .1)

@@ -5,18 +5,23 @@ use native.Mathlib.Omega.{arith}
 use lib.ListN.{length}
 use Rattle.trace.proofs.Laws.{wrote-length}
 use Rattle.dial.specs.Dial.{dialOf}
+use Rattle.haul.specs.Hauls.{haulOf, haulMem}
+use Rattle.run.specs.Far.{haulsFar}
 use Rattle.run.proofs.ByOpcode.{haul-goes}
+use Rattle.run.proofs.Far.{far-start, far-more, far-stopped, far-ended}
 use Rattle.trail.specs.Trails.{walk, Walked}
+use Rattle.trail.specs.declared.types.Walk.{Walk}
 use Rattle.prints.specs.declared.Mark.{Mark}
 use Rattle.trail.proofs.Walks.{shows-start, walked-start, room-left, walked-haul, shows-on, walked-stop, done-few, some-left, still-fits, more-left, seven-fit}
 use Rattle.trail.proofs.trail.hauls.Statement.{statement}
 use Rattle.trail.proofs.trail.hauls.Tie as tie
 
--- what is left of the budget, and how far the cycles and their lines have got
+-- what is left of the budget, how far the cycles and their lines have got, and how many there are to be
 abbrev Inv-loop : tie.InvT-loop
 Inv-loop mem₀ text₀ start number budget at₀ m₀ left₀ mem text at m left =
     (left ≤ budget) × (0 < left) × (length mem ≡ length mem₀) × (m .dial ≡ dialOf (number + (budget - left)))
     × Walked at₀ mem₀ text₀ number start (walk (budget - left) (m .place) at) mem text
+    × ((budget - left) + haulsFar left at mem ≡ haulsFar budget at₀ mem₀)
 
 abbrev μ-loop : tie.MeasureT-loop
 μ-loop mem₀ text₀ start number budget at₀ m₀ left₀ mem text at m left = left
@@ -36,6 +41,7 @@ loop-holds c =
       refl,
       shows-start _ _ _ (ap (λ (v : Mark). v .dial) k ∙ c .before .dial-of .ensures),
       walked-start _ _ _ _ _ _ _ (ap (λ (v : Mark). v .place) k) (h .0 .1),
+      far-start haulOf haulMem 8 _ _ _,
     )
 
 bytes-at-requires : tie.Need-bytes-at-requires Inv-loop μ-loop
@@ -63,9 +69,10 @@ returns : tie.Need-returns Inv-loop μ-loop
 returns c =
     let h = c .before .before .before .before .before .before .before .before .before .before .before .before .before .before .before .before .before .before .pre in
     let i = c .before .before .before .before .before .before .before .before .before .before .before .before .before .loop .inv in
-    let y = haul-goes _ _ (i .2 ∙ c .before .before .before .before .before .before .before .before .before .before .before .before .before .before .before .before .before .before .pre .0 .0) (i .4 .well) (c .before .before .before .before .before .before .haul .ensures .1 .0) (c .before .before .before .before .before .before .haul .ensures .1 .1) (c .before .before .before .before .before .before .haul .ensures .1 .2) _ _ (c .before .before .before .before .before .before .haul .ensures .0) in (
+    let y = haul-goes _ _ (i .2 ∙ c .before .before .before .before .before .before .before .before .before .before .before .before .before .before .before .before .before .before .pre .0 .0) (i .4 .well) (c .before .before .before .before .before .before .haul .ensures .1 .0) (c .before .before .before .before .before .before .haul .ensures .1 .1) (c .before .before .before .before .before .before .haul .ensures .1 .2) _ _ (c .before .before .before .before .before .before .haul .ensures .0) in
+    let f = far-stopped haulOf haulMem 8 _ _ _ _ _ _ (i .0) (i .5) _ _ (c .before .before .before .before .before .before .haul .ensures .0 .0) (c .before .if1 .taken) (ap (λ (v : Walk). v .cycles) (c .walk-of .ensures)) in (
       walked-stop _ _ _ _ _ _ _ _ _ _ _ (i .0) (h .1 .0) (i .4) (i .3) _ _ _ _ (y .0 .0) (y .0 .1) (c .before .if1 .taken) (c .walk-of .ensures),
-      rw (c .walk-of .ensures) (omega (arith, i .0, i .1)),
+      (rw (c .walk-of .ensures) (omega (arith, i .0, i .1)), f),
     )
 
 put-haul-requires : tie.Need-put-haul-requires Inv-loop μ-loop
@@ -88,7 +95,7 @@ loop-again c =
     let h = c .before .before .before .before .before .before .before .before .before .before .before .before .before .before .before .before .before .before .before .before .before .before .before .pre in
     let i = c .before .before .before .before .before .before .before .before .before .before .before .before .before .before .before .before .before .before .loop .inv in
     let y = haul-goes _ _ (i .2 ∙ c .before .before .before .before .before .before .before .before .before .before .before .before .before .before .before .before .before .before .before .before .before .before .before .pre .0 .0) (i .4 .well) (c .before .before .before .before .before .before .before .before .before .before .before .haul .ensures .1 .0) (c .before .before .before .before .before .before .before .before .before .before .before .haul .ensures .1 .1) (c .before .before .before .before .before .before .before .before .before .before .before .haul .ensures .1 .2) _ _ (c .before .before .before .before .before .before .before .before .before .before .before .haul .ensures .0) in
-    let n = c .before .before .before .before .before .before .before .before .before .before .before .before .before .before .before .before .before .loop-test .taken in
+    let n : 8 < c .before .before .before .before .before .before .before .before .before .before .before .before .before .before .before .before .before .before .loop .left = omega (arith, c .before .before .before .before .before .before .before .before .before .before .before .before .before .before .before .before .before .loop-test .taken) in
     let u = room-left _ _ _ _ _ _ _ _ _ _ _ (i .0) (h .1 .0) (i .4) (i .3) (h .1 .1) in
     let a = c .before .before .before .before .before .before .before .before .before .before .before .before .before .before .before .bytes-at .ensures in
     let d = c .before .before .before .put-haul .ensures in
@@ -107,6 +114,7 @@ loop-again c =
       c .before .before .before .before .before .before .before .before .before .before .before .haul .kept .1 .0 ∙ i .2,
       shows-on _ _ _ _ _ _ _ _ _ _ _ (i .0) (h .1 .0) (i .4) (i .3) _ _ _ _ _ _ (done-few _ _ 8 (y .1) (more-left _ 8 n)) (y .0 .0) f q k e,
       walked-haul _ _ _ _ _ _ _ _ _ _ _ (i .0) (h .1 .0) (i .4) (i .3) _ _ _ _ _ (done-few _ _ 8 (y .1) (more-left _ 8 n)) (y .0 .0) f q k e (y .0 .1) z,
+      far-more haulOf haulMem 8 _ _ _ _ _ _ (i .0) (i .5) n _ _ (c .before .before .before .before .before .before .before .before .before .before .before .haul .ensures .0) (done-few _ _ 8 (y .1) (more-left _ 8 n)) (c .before .before .before .before .before .before .if1 .left),
     )
 
 sub-walk-of-2 : tie.Need-sub-walk-of-2 Inv-loop μ-loop
@@ -124,7 +132,8 @@ same-length-4 c = omega (arith, wrote-length (c .before .before .loop .inv .4 .w
 returns-2 : tie.Need-returns-2 Inv-loop μ-loop
 returns-2 c =
     let i = c .before .before .loop .inv in
-    (rw (c .walk-of2 .ensures) (i .4), rw (c .walk-of2 .ensures) (omega (arith, i .0, i .1)))
+    let f = far-ended haulOf haulMem 8 _ _ _ _ _ _ (i .0) (i .5) _ (omega (arith, c .before .loop-test .left)) (ap (λ (v : Walk). v .cycles) (c .walk-of2 .ensures)) in
+    (rw (c .walk-of2 .ensures) (i .4), (rw (c .walk-of2 .ensures) (omega (arith, i .0, i .1)), f))
 
 pub hauls-spec : {M : Type 1} → statement M
 hauls-spec =

@@ -5,22 +5,26 @@ use mathlib.Core.Bool.{true}
 use native.Mathlib.Omega.{arith}
 use lib.ListN.{length}
 use Rattle.cpu.specs.Record.{wellFormed}
-use Rattle.stride.specs.Strides.{fresh}
+use Rattle.stride.specs.Strides.{fresh, strideOf, strideMem}
 use Rattle.trace.proofs.Laws.{wrote-length}
 use Rattle.dial.specs.Dial.{dialOf}
+use Rattle.run.specs.Far.{stridesFar}
 use Rattle.run.proofs.ByOpcode.{stride-goes}
 use Rattle.run.proofs.Stretches.{cleared-is}
+use Rattle.run.proofs.Far.{far-start, far-more, far-stopped, far-ended, far-same}
 use Rattle.trail.specs.Trails.{walk, Walked}
+use Rattle.trail.specs.declared.types.Walk.{Walk}
 use Rattle.prints.specs.declared.Mark.{Mark}
 use Rattle.trail.proofs.Walks.{shows-start, walked-start, room-left, walked-stride, shows-on, walked-stop, walked-from, done-few, some-left, still-fits, seven-fit}
 use Rattle.trail.proofs.trail.strides.Statement.{statement}
 use Rattle.trail.proofs.trail.strides.Tie as tie
 
--- what is left of the budget, and how far the cycles and their lines have got
+-- what is left of the budget, how far the cycles and their lines have got, and how many there are to be
 abbrev Inv-loop : tie.InvT-loop
 Inv-loop mem₀ text₀ start number budget at₀ m₀ left₀ mem text at m left =
     (left ≤ budget) × (0 < left) × (length mem ≡ length mem₀) × (fresh at ≡ true) × (m .dial ≡ dialOf (number + (budget - left)))
     × Walked at₀ mem₀ text₀ number start (walk (budget - left) (m .place) at) mem text
+    × ((budget - left) + stridesFar left at mem ≡ stridesFar budget at₀ mem₀)
 
 abbrev μ-loop : tie.MeasureT-loop
 μ-loop mem₀ text₀ start number budget at₀ m₀ left₀ mem text at m left = left
@@ -45,6 +49,7 @@ loop-holds c =
       ap fresh e ∙ h .0 .2,
       shows-start _ _ _ (ap (λ (v : Mark). v .dial) k ∙ c .before .dial-of .ensures),
       walked-start _ _ _ _ _ _ _ (ap (λ (v : Mark). v .place) k) (ap wellFormed e ∙ h .0 .1),
+      far-start strideOf strideMem 7 _ _ _,
     )
 
 bytes-at-requires : tie.Need-bytes-at-requires Inv-loop μ-loop
@@ -69,10 +74,11 @@ returns : tie.Need-returns Inv-loop μ-loop
 returns c =
     let h = c .before .before .before .before .before .before .before .before .before .before .before .before .before .before .before .before .before .pre in
     let i = c .before .before .before .before .before .before .before .before .before .before .before .loop .inv in
-    let y = stride-goes _ _ (i .2 ∙ c .before .before .before .before .before .before .before .before .before .before .before .before .before .before .before .before .before .pre .0 .0) (i .5 .well) (i .3) (c .before .before .before .before .before .before .stride .ensures .1) _ _ (c .before .before .before .before .before .before .stride .ensures .0) in (
-      walked-from _ _ _ _ _ _ _ _ _ (c .before .before .before .before .before .before .before .before .before .before .before .before .before .before .cleared .ensures ∙ cleared-is _ (h .0 .1) (h .0 .2))
-          (walked-stop _ _ _ _ _ _ _ _ _ _ _ (i .0) (h .1 .0) (i .5) (i .4) _ _ _ _ (y .0 .0) (y .0 .1) (c .before .if1 .taken) (c .walk-of .ensures)),
-      rw (c .walk-of .ensures) (omega (arith, i .0, i .1)),
+    let y = stride-goes _ _ (i .2 ∙ c .before .before .before .before .before .before .before .before .before .before .before .before .before .before .before .before .before .pre .0 .0) (i .5 .well) (i .3) (c .before .before .before .before .before .before .stride .ensures .1) _ _ (c .before .before .before .before .before .before .stride .ensures .0) in
+    let e = c .before .before .before .before .before .before .before .before .before .before .before .before .before .before .cleared .ensures ∙ cleared-is _ (h .0 .1) (h .0 .2) in
+    let f = far-stopped strideOf strideMem 7 _ _ _ _ _ _ (i .0) (i .6) _ _ (c .before .before .before .before .before .before .stride .ensures .0 .0) (c .before .if1 .taken) (ap (λ (v : Walk). v .cycles) (c .walk-of .ensures)) in (
+      walked-from _ _ _ _ _ _ _ _ _ e (walked-stop _ _ _ _ _ _ _ _ _ _ _ (i .0) (h .1 .0) (i .5) (i .4) _ _ _ _ (y .0 .0) (y .0 .1) (c .before .if1 .taken) (c .walk-of .ensures)),
+      (rw (c .walk-of .ensures) (omega (arith, i .0, i .1)), far-same strideOf strideMem 7 _ _ _ _ _ e f),
     )
 
 track-requires : tie.Need-track-requires Inv-loop μ-loop
@@ -98,7 +104,7 @@ loop-again c =
     let h = c .before .before .before .before .before .before .before .before .before .before .before .before .before .before .before .before .before .before .before .before .before .before .before .pre in
     let i = c .before .before .before .before .before .before .before .before .before .before .before .before .before .before .before .before .before .loop .inv in
     let y = stride-goes _ _ (i .2 ∙ c .before .before .before .before .before .before .before .before .before .before .before .before .before .before .before .before .before .before .before .before .before .before .before .pre .0 .0) (i .5 .well) (i .3) (c .before .before .before .before .before .before .before .before .before .before .before .before .stride .ensures .1) _ _ (c .before .before .before .before .before .before .before .before .before .before .before .before .stride .ensures .0) in
-    let n = c .before .before .before .before .before .before .before .before .before .before .before .before .before .before .before .before .loop-test .taken in
+    let n : 7 < c .before .before .before .before .before .before .before .before .before .before .before .before .before .before .before .before .before .loop .left = omega (arith, c .before .before .before .before .before .before .before .before .before .before .before .before .before .before .before .before .loop-test .taken) in
     let u = room-left _ _ _ _ _ _ _ _ _ _ _ (i .0) (h .1 .0) (i .5) (i .4) (h .1 .1) in
     let a = c .before .before .before .before .before .before .before .before .before .before .before .before .before .before .bytes-at .ensures in
     let d = c .before .before .before .put-track .ensures in
@@ -120,6 +126,7 @@ loop-again c =
       y .1 .1,
       shows-on _ _ _ _ _ _ _ _ _ _ _ (i .0) (h .1 .0) (i .5) (i .4) _ _ _ _ _ _ (done-few _ _ 8 (y .1 .0) n) (y .0 .0) f q k e,
       walked-stride _ _ _ _ _ _ _ _ _ _ _ (i .0) (h .1 .0) (i .5) (i .4) _ _ _ _ _ (done-few _ _ 8 (y .1 .0) n) (y .0 .0) f q k e (y .0 .1) s v,
+      far-more strideOf strideMem 7 _ _ _ _ _ _ (i .0) (i .6) n _ _ (c .before .before .before .before .before .before .before .before .before .before .before .before .stride .ensures .0) (done-few _ _ 8 (y .1 .0) n) (c .before .before .before .before .before .before .before .if1 .left),
     )
 
 sub-walk-of-2 : tie.Need-sub-walk-of-2 Inv-loop μ-loop
@@ -137,9 +144,11 @@ same-length-4 c = omega (arith, wrote-length (c .before .before .loop .inv .5 .w
 returns-2 : tie.Need-returns-2 Inv-loop μ-loop
 returns-2 c =
     let h = c .before .before .before .before .before .before .before .before .pre in
-    let i = c .before .before .loop .inv in (
-      walked-from _ _ _ _ _ _ _ _ _ (c .before .before .before .before .before .cleared .ensures ∙ cleared-is _ (h .0 .1) (h .0 .2)) (rw (c .walk-of2 .ensures) (i .5)),
-      rw (c .walk-of2 .ensures) (omega (arith, i .0, i .1)),
+    let i = c .before .before .loop .inv in
+    let e = c .before .before .before .before .before .cleared .ensures ∙ cleared-is _ (h .0 .1) (h .0 .2) in
+    let f = far-ended strideOf strideMem 7 _ _ _ _ _ _ (i .0) (i .6) _ (omega (arith, c .before .loop-test .left)) (ap (λ (v : Walk). v .cycles) (c .walk-of2 .ensures)) in (
+      walked-from _ _ _ _ _ _ _ _ _ e (rw (c .walk-of2 .ensures) (i .5)),
+      (rw (c .walk-of2 .ensures) (omega (arith, i .0, i .1)), far-same strideOf strideMem 7 _ _ _ _ _ e f),
     )
 
 pub strides-spec : {M : Type 1} → statement M
