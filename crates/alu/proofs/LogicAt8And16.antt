@@ -1,5 +1,5 @@
 -- V of sums, the logical operations, loads and BIT at 8 and at 16 bits; and the registers that CMP and BIT leave whole.
-use Prim.Native.Nat.{ℕ, _/_, _%_, _<_}
+use Prim.Native.Nat.{ℕ, _%_, _<_}
 use mathlib.Core.Path.{_≡_}
 use mathlib.Core.Bool.{true, false, not}
 use native.Mathlib.Omega.{arith}

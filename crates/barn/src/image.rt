@@ -1,5 +1,4 @@
 // An image's bytes, which are the memory from 000000 on.
-ghost use Prim.Native.Nat.{_≤_};
 ghost use mathlib.Core.Path.{_≡_};
 use gate::say::complain;
 use pails::image::size;

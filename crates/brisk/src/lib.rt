@@ -1,3 +1,3 @@
-// Whole instructions' work in one go: operations at their width, one-byte instructions, and the opcodes that a quick path takes.
+// Whole instructions' work in one go: operations at their width, and one-byte instructions.
 pub mod regs;
 pub mod work;

@@ -18,7 +18,6 @@ use Rattle.lines.specs.Text.{pastOf, byteAt, isAt, sameAt, byteOf}
 use Rattle.lines.specs.Form.{isOpen, cycleEnd}
 use Rattle.lines.specs.State.{wordsOf}
 use Rattle.lines.specs.declared.types.Places.{Places}
-use Rattle.course.specs.declared.types.Difference.{Difference}
 use Rattle.course.specs.declared.types.Difference.the-variants as differs
 use Rattle.course.specs.declared.types.Met.{Met}
 use Rattle.course.specs.declared.types.Met.the-variants.{Agreed, Differs}

@@ -4,6 +4,7 @@ use mathlib.Core.Path.{_≡_, sym, subst}
 use mathlib.Core.Bool.{Bool, true, false, _||_}
 use mathlib.Core.List.{List}
 use native.Mathlib.Omega.{arith}
+use native.Mathlib.Nat.{add-zero}
 use Rattle.words.specs.Words.{bit, lowOf, highOf, word, inc, dec, sum16, at, sum24, pageOne}
 use Rattle.flags.specs.Flags.{weigh, byteOf}
 use Rattle.flags.specs.declared.Flags.{Flags}
@@ -30,8 +31,8 @@ use Rattle.step.specs.Cycle.{microOf, askedBy, requestOf}
 use Rattle.packed.specs.Packed.{unpack, unpacked, byteAt}
 use Rattle.packed.specs.declared.types.Unpacked.the-variants.{Good}
 use Rattle.packed.proofs.RoundTrip.{good-record}
-use Rattle.step.specs.Answers.{kindNumber}
-use Rattle.numbers.specs.Numbers.{askedBits}
+use Rattle.step.specs.Answers.{kindNumber, askedValues}
+use Rattle.numbers.specs.Numbers.{valueBits, askedBits}
 use Rattle.numbers.proofs.Bytes.{Bytes}
 use Rattle.cycle_port.specs.Port.{requestNumber}
 
@@ -258,12 +259,12 @@ fields : (q : Request) → q .addr < 16777216 → q .byte < 256 → Fields q (as
 fields q h g =
     let k = kind-small (q .kind) in
     let w = bit-small (q .write) in
-    record {
+    subst (Fields q) (sym (add-zero (valueBits (askedValues (asked.Ask q))))) (record {
       addr = first (q .addr) (q .byte) (kindNumber (q .kind)) (bit (q .write)) h g k w;
       byte = second (q .addr) (q .byte) (kindNumber (q .kind)) (bit (q .write)) h g k w;
       kind = third (q .addr) (q .byte) (kindNumber (q .kind)) (bit (q .write)) h g k w;
       write = fourth (q .addr) (q .byte) (kindNumber (q .kind)) (bit (q .write)) h g k w;
-    }
+    })
 
 -- whatever bytes a packed record has, what it asks stands in the number
 pub request-fields : (b : List ℕ) (r : Record) (q : Request) → Bytes b → unpacked b ≡ Good r → requestOf r ≡ asked.Ask q → Fields q (requestNumber b)

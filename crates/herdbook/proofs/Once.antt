@@ -15,7 +15,6 @@ use Rattle.cpu.specs.declared.types.Reg.the-variants as reg
 use Rattle.cpu.specs.declared.types.Source.the-variants as source
 use Rattle.cpu.specs.declared.types.One.the-variants as one
 use Rattle.cpu.specs.declared.types.Cond.the-variants as cond
-use Rattle.opcodes.specs.declared.types.Shape.{Shape}
 use Rattle.opcodes.specs.declared.types.Shape.the-variants.{Immediate}
 use Rattle.opcodes.specs.declared.types.Operation.{Operation}
 use Rattle.opcodes.specs.declared.types.Operation.the-variants.{Plain, Read, Give, Take, Do, If, Flag}

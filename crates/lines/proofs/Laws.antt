@@ -2,7 +2,7 @@
 use Prim.Native.Nat.{ℕ, zero, suc, _+_, _%_, _≤_, _<_}
 use mathlib.Core.Path.{_≡_, sym, _∙_}
 use mathlib.Core.Bool.{Bool, true, false, not}
-use mathlib.Core.List.{List, [], _∷_}
+use mathlib.Core.List.{List}
 use native.Mathlib.Numerals.{add-one}
 use borrow.Author.Tests.{eq-eqb, ne-eqb, not-true, not-false}
 use lib.ListN.{length, getD, drop, drop-of-length-le}
@@ -14,7 +14,6 @@ use Rattle.trace.specs.Text.{hexDigit}
 use Rattle.lines.specs.Text.{pastOf, byteAt, isAt, sameFrom}
 use Rattle.lines.specs.Form.{belongs, runEnd, cycleEnd, spanned, noSpan, spanOf}
 use Rattle.lines.specs.State.{putOf, bytePut, wordPut, wordsIn}
-use Rattle.lines.specs.declared.types.Span.{Span}
 
 -- ---- a part that stands in the text: p is the place of its next character, r what was found there
 

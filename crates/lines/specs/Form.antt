@@ -7,7 +7,6 @@ use lib.Dec.{eqb, ltb, leb}
 use lib.ListN.{length}
 use Rattle.words.specs.Words.{pick}
 use Rattle.lines.specs.Text.{pastOf, byteAt, isAt, sameAt, isByte, isWord}
-use Rattle.lines.specs.declared.types.Fault.{Fault}
 use Rattle.lines.specs.declared.types.Fault.the-variants.{Length, Id, Source, Start, Cycles, After, Extra}
 use Rattle.lines.specs.declared.types.Places.{Places}
 use Rattle.lines.specs.declared.types.Line.{Line}

@@ -1,4 +1,4 @@
--- The quick opcodes: those whose shape is an operand, a store, one byte, a branch, a jump or a move.
+-- The quick opcodes: those whose shape is an operand, a store, one byte but XBA, a branch, or the jump JMP a.
 use Prim.Native.Nat.{ℕ}
 use mathlib.Core.Bool.{Bool, true}
 use Rattle.flags.specs.declared.Flags.{Flags}

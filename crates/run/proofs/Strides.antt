@@ -28,7 +28,7 @@ use Rattle.sheet.specs.Run.{Ran, run}
 use Rattle.sheet.specs.Sheet.{sheet, O, P, I, when}
 use Rattle.sheet.proofs.Demand2.{instead}
 use Rattle.run.specs.Runs.{size}
-use Rattle.stride.specs.Strides.{there, operand, inside, spotOf, reading, storing, branching, placed, kept, leg, arrived}
+use Rattle.stride.specs.Strides.{there, operand, spotOf, reading, storing, branching, placed, kept, leg, arrived}
 use Rattle.haul.specs.Hauls.{hauled, carried}
 use Rattle.tracks.specs.Tracks.{reads, writes, trackLines, haulLines}
 use Rattle.tracks.specs.declared.types.Track.the-variants.{Inside, Program, Branch, ReadDirect, StoreDirect, ReadAbsolute, StoreAbsolute}

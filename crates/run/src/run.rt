@@ -1,7 +1,7 @@
 // Refusals 1 and 2 once, then whole instructions as far as they go, and cycles. Well-formedness is tested once: every cycle keeps it.
 ghost use mathlib.Core.Path.{_≡_};
 ghost use mathlib.Core.Bool.{true};
-ghost use Prim.Native.Nat.{_≤_, _<_};
+ghost use Prim.Native.Nat.{_<_};
 ghost use lib.ListN.{length};
 ghost use Rattle.cpu.specs.Record.{wellFormed};
 ghost use Rattle.stride.specs.Strides.{fresh};

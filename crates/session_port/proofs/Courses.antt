@@ -1,5 +1,5 @@
 -- Several cycles of a session by the first, and by what its bytes are found to be; and one of them is a cycle.
-use Prim.Native.Nat.{ℕ, suc, _-_}
+use Prim.Native.Nat.{ℕ, suc}
 use mathlib.Core.Path.{_≡_, refl}
 use mathlib.Core.Bool.{Bool, true, false}
 use mathlib.Core.List.{List}

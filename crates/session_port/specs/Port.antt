@@ -104,7 +104,7 @@ wentTo s c n = record { session = s; cycles = c; number = n }
 abbrev pub toldOf : Course → Went
 toldOf e = wentTo (e .session) (e .done) (e .number)
 
--- a session whose record isn't well formed
+-- a session whose record isn't well formed, or a memory of another size
 abbrev pub unfitOf : (count len : ℕ) → Session → Went
 unfitOf c n s = wentTo s 0 (pick (eqb c 0) 0 (pick (eqb n size) (numberOf Malformed) (numberOf Memory)))
 

@@ -1,10 +1,7 @@
 // Bench sessions as 40 bytes: the work is done by value, and the bytes are taken apart before and put together after it.
 ghost use mathlib.Core.Path.{_≡_};
 ghost use Prim.Native.Nat.{_+_, _*_, _≤_, _<_};
-ghost use lib.Dec.{eqb};
 ghost use lib.ListN.{length};
-ghost use Rattle.words.specs.Words.{pick};
-ghost use Rattle.run.specs.Runs.{size};
 ghost use Rattle.session.specs.Sessions.{sessionAt};
 ghost use Rattle.session_port.specs.Port.{countAt, countBytes, packSession, opened, sessionRequest, sessionAnswer, sessionCycles, tallied, tallyOf};
 use crate::repeated::repeated;

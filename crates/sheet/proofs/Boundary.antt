@@ -2,9 +2,9 @@
 -- `atBoundary` of the runs and `boundary` of the record say the same. They differ only where another opcode than a move's is held at
 -- cycle 0, and no cycle leads there.
 use Prim.Native.Nat.{ℕ, suc, _%_}
-use mathlib.Core.Path.{_≡_, refl, subst, sym, _∙_}
+use mathlib.Core.Path.{_≡_, refl, subst}
 use mathlib.Core.Bool.{Bool, true, false, not, _&&_}
-use Rattle.words.specs.Words.{pick, implied, samePage}
+use Rattle.words.specs.Words.{implied, samePage}
 use Rattle.cpu.specs.Record.{isMove, boundary, midOf, regsOf, underWay, ended, holds}
 use Rattle.cpu.specs.declared.types.Record.{Record}
 use Rattle.cpu.specs.declared.types.Regs.{Regs}
@@ -26,7 +26,7 @@ use Rattle.act.specs.declared.types.Way.the-variants.{On, End, Again}
 use Rattle.step.specs.Cycle.{microOf, begun, answeredBy, answerOf}
 use Rattle.sheet.specs.Run.{atBoundary}
 use Rattle.sheet.proofs.Walk.{not-zero, and-right}
-use Rattle.sheet.proofs.Moving.{isMoving, is-move}
+use Rattle.sheet.proofs.Moving.{is-move}
 use Rattle.sheet.proofs.Rows.{fine, silent, again, inOrder, micro-in-order}
 
 abbrev Same : Answer → Type 0

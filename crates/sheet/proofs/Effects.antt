@@ -2,7 +2,6 @@
 use Prim.Native.Nat.{ℕ, suc, _<_}
 use mathlib.Core.Path.{_≡_}
 use mathlib.Core.Bool.{true, false}
-use Rattle.words.specs.Words.{word}
 use Rattle.flags.specs.Flags.{setNZ}
 use Rattle.alu.specs.Alu.{operatedAt}
 use Rattle.cpu.specs.Registers.{get, put, setFlags}

@@ -1,7 +1,7 @@
 -- MVN and MVP are the opcodes that well-formedness means by a move: 54 and 44, and no other byte.
 use Prim.Native.Nat.{ℕ}
 use mathlib.Core.Path.{_≡_, refl, sym, ap, _∙_}
-use mathlib.Core.Bool.{Bool, true, false, _||_}
+use mathlib.Core.Bool.{Bool, true, false}
 use mathlib.Core.List.{List, [], _∷_}
 use lib.Dec.{T, eqb}
 use borrow.Author.Tests.{eqb-true}

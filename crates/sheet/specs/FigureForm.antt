@@ -1,7 +1,7 @@
 -- A figure: a row that names a start, the bytes that the bus answers cycle by cycle, then what must be seen: registers and flags after the
 -- instruction, how many cycles it took, what it asked of the bus.
 use Prim.Native.Nat.{ℕ, _+_}
-use mathlib.Core.Bool.{Bool, true, false, not, _&&_}
+use mathlib.Core.Bool.{Bool, false, not, _&&_}
 use mathlib.Core.List.{List, [], _∷_, _++_, map}
 use lib.Dec.{eqb}
 use lib.ListN.{length, getD}

@@ -2,7 +2,7 @@
 -- `b i k` is the byte that is answered in cycle k of the move's byte i.
 use Prim.Native.Nat.{ℕ, zero, suc}
 use mathlib.Core.Bool.{Bool, false}
-use mathlib.Core.List.{List, [], _∷_, _++_}
+use mathlib.Core.List.{List, [], _++_}
 use Rattle.words.specs.Words.{pick, up, index}
 use Rattle.cpu.specs.Registers.{stepped}
 use Rattle.cpu.specs.declared.types.Record.{Record}

@@ -1,15 +1,13 @@
 -- One digit more of a text, after i of them.
 use Prim.Native.Nat.{ℕ, _+_, _*_, _≤_, _<_}
-use mathlib.Core.Path.{_≡_, refl, _∙_}
-use mathlib.Core.Bool.{Bool, true, false}
-use mathlib.Core.List.{List, [], _∷_}
-use native.Mathlib.Omega.{arith}
+use mathlib.Core.Path.{_≡_}
+use mathlib.Core.Bool.{Bool}
+use mathlib.Core.List.{List}
 use native.Mathlib.Numerals.{add-one}
 use borrow.Author.Tests.{le-leb, lt-leb, lt-ltb, le-ltb}
 use lib.ListN.{length, getD, drop, drop-of-length-le}
 use lib.Seq.{drop-cons}
 use Rattle.slip.specs.Slip.{valueOf, baseOf, numberFrom}
-use Rattle.slip.specs.declared.types.Number.{Number}
 use Rattle.slip.specs.declared.types.Number.the-variants.{Good, Bad}
 
 module _ (t : List ℕ) (hex : Bool) (n i d : ℕ) (e : d ≡ valueOf (getD t i 0)) (h : i < length t) where

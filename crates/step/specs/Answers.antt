@@ -5,7 +5,6 @@ use Rattle.words.specs.Words.{bit}
 use Rattle.cpu.specs.Record.{numberOf}
 use Rattle.cpu.specs.declared.types.Kind.{Kind}
 use Rattle.cpu.specs.declared.types.Kind.the-variants.{Opcode, Program, Data, Invalid}
-use Rattle.cpu.specs.declared.types.Request.{Request}
 use Rattle.cpu.specs.declared.types.Asked.{Asked}
 use Rattle.cpu.specs.declared.types.Asked.the-variants.{Ask, No}
 use Rattle.cpu.specs.declared.types.Answer.{Answer}

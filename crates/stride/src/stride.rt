@@ -285,16 +285,10 @@ fn arrive(op: u8, r: Record, l: Leg) -> Stretch
     ensures { λ t. ⌜ t ≡ pick (eqb (l .cycles) 0) (stretch 0 r) (stretch (l .cycles) (arrived op l)) ⌝ }
 {
     if l.cycles == 0 {
-        Stretch {
-            cycles: 0,
-            after: r,
-        }
+        stretch_of(0, r)
     } else {
         let g = l.regs;
-        Stretch {
-            cycles: l.cycles as u32,
-            after: finished(op, false, 0, l.pc, l.s, l.dbr, g),
-        }
+        stretch_of(l.cycles as u32, finished(op, false, 0, l.pc, l.s, l.dbr, g))
     }
 }
 

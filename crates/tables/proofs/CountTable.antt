@@ -15,8 +15,8 @@ use Rattle.opcodes.specs.declared.types.Shape.{Shape}
 use Rattle.opcodes.specs.declared.types.Shape.the-variants.{Immediate, Absolute, Direct, StoreAbsolute, StoreDirect, Implied, Xba, Mask, Wdm, Push, Pull, PullP, PullB, PullD, Pea, Pei, Per, Jump, JumpLong, JumpIndirect, JumpIndirectLong, JumpIndexed, Call, CallIndexed, CallLong, Return, ReturnLong, Branch, BranchLong, Move}
 use Rattle.cycles.specs.Cycles.{unaligned}
 use Rattle.sheet.specs.Counts.{countOf, lengthOf}
-use Rattle.shapes.specs.Shapes.{shapeNumber, numberOfShape}
-use Rattle.tables.specs.Counts.{baseOf, widerOf, laterOf, bytesOf, longerOf, rowAt, columnAt, wideAt, countAt, lengthAt}
+use Rattle.shapes.specs.Shapes.{shapeNumber}
+use Rattle.tables.specs.Counts.{baseOf, widerOf, laterOf, bytesOf, longerOf, columnAt, wideAt, countAt, lengthAt}
 
 abbrev pub counts : List ℕ
 counts =

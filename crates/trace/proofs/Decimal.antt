@@ -6,7 +6,6 @@ use mathlib.Core.Logic.{_⊎_, inl, inr, ⊎-elim}
 use native.Mathlib.Omega.{arith}
 use native.Mathlib.Nat.{div-div-eq-div-mul}
 use borrow.Author.Tests.{lt-ltb, le-ltb}
-use lib.Dec.{ltb}
 use lib.ListN.{length, length-append}
 use Rattle.trace.specs.Text.{digitsOf, decimal}
 use Rattle.trace.specs.Places.{digitAt, tens, places, upperOf, lowerOf}

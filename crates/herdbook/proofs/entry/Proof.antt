@@ -1,11 +1,9 @@
 use Prim.Native.Nat.{ℕ, _/_, _%_}
-use mathlib.Core.Path.{_≡_, refl, sym, ap, _∙_}
-use mathlib.Core.Bool.{Bool, true, false}
-use lib.Dec.{eqb}
+use mathlib.Core.Path.{_≡_, sym, ap, _∙_}
+use mathlib.Core.Bool.{Bool}
 use borrow.Author.Needs.{needs}
 use borrow.Author.Tests.{ne-eqb}
 use Rattle.words.specs.Words.{pick}
-use Rattle.opcodes.specs.declared.types.Op.{Op}
 use Rattle.opcodes.specs.declared.types.Op.the-variants.{Unlisted, Listed}
 use Rattle.opcodes.specs.declared.types.Shape.{Shape}
 use Rattle.herdbook.specs.Herdbook.{entryAt, shapeAt, operationAt}

@@ -1,4 +1,5 @@
 use borrow.Author.Needs.{needs}
+use native.Mathlib.Omega.{arith}
 use Rattle.numbers.proofs.numbers.asked_number.Statement.{statement}
 use Rattle.numbers.proofs.numbers.asked_number.Tie as tie
 
@@ -61,14 +62,14 @@ returns c = simp (
   c .before .before .before .kind-number .ensures,
   c .before .before .before .before .wide .ensures .0,
   c .before .before .before .before .before .before .before .a .given .1,
-)
+) (omega arith)
 
 returns-2 : tie.Need-returns-2
 returns-2 c = simp (
   c .wide4 .ensures .0,
   c .before .number .ensures,
   c .before .before .before .a2 .given .1,
-)
+) (omega arith)
 
 pub asked-number-spec : {M : Type 1} → statement M
 asked-number-spec =
