@@ -2,10 +2,9 @@
 # The first trace in C, linked to the proved library, where a C compiler is at hand. library/build.sh makes the library.
 set -eu
 cd "$(dirname "$0")/.."
-if ! command -v cc >/dev/null; then
-    echo "c: not run: there is no cc"
-    exit 0
-fi
+for tool in cc ar nm; do
+    command -v $tool >/dev/null || { echo "c: not run: there is no $tool"; exit 0; }
+done
 case $(cc -dumpmachine) in
 x86_64*) ;;
 *)

@@ -2,10 +2,9 @@
 # The Rust crate's tests and examples over the proved library, where cargo is at hand. library/build.sh makes the library.
 set -eu
 cd "$(dirname "$0")/.."
-if ! command -v cargo >/dev/null; then
-    echo "rust: not run: there is no cargo"
-    exit 0
-fi
+for tool in cargo rustc cc ar nm; do
+    command -v $tool >/dev/null || { echo "rust: not run: there is no $tool"; exit 0; }
+done
 host=$(rustc -vV | sed -n 's/^host: //p')
 case $host in
 x86_64*) ;;
