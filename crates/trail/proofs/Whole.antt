@@ -1,33 +1,21 @@
--- What the entry finds before it starts.
+-- What the entry answers, by what it finds before it starts.
 use Prim.Native.Nat.{ℕ, _+_, _*_, _≤_}
 use mathlib.Core.Path.{_≡_, refl, subst, sym, ap}
-use mathlib.Core.Bool.{Bool, true, false, _&&_}
+use mathlib.Core.Bool.{Bool, true, false}
 use mathlib.Core.List.{List}
 use native.Mathlib.Nat.{add-zero}
-use lib.Dec.{eqb, leb}
 use lib.ListN.{length}
-use borrow.Author.Tests.{eqb-true, leb-true, eq-eqb, le-leb}
+use borrow.Author.Tests.{eq-eqb, le-leb}
 use Rattle.words.specs.Words.{pick}
 use Rattle.cpu.specs.Record.{wellFormed}
 use Rattle.cpu.specs.declared.types.Record.{Record}
 use Rattle.trace.specs.Text.{linesText}
-use Rattle.sheet.proofs.Walk.{and-left, and-right}
 use Rattle.run.specs.Runs.{End, ends, runOf, size, most}
-use Rattle.trail.specs.Trails.{toldAs, Listed, roomy, trailOf}
+use Rattle.drive.specs.Drives.{roomy}
+use Rattle.trail.specs.Trails.{toldAs, Listed, trailOf}
 use Rattle.trail.specs.declared.types.Told.{Told}
 
 module _ (p before b : ℕ) (r : Record) (m t : List ℕ) where
-  abbrev fits : Bool
-  fits = leb (before + b) most && leb (p + 22 * b) (length t)
-
-  pub parts : roomy p before b r m t ≡ true → ((length m ≡ size) × (wellFormed r ≡ true)) × ((before + b ≤ most) × (p + 22 * b ≤ length t))
-  parts e =
-      let f : (eqb (length m) size && fits) ≡ true = and-left (eqb (length m) size && fits) (wellFormed r) e in
-      let g : fits ≡ true = and-right (eqb (length m) size) fits f in (
-        (eqb-true _ _ (and-left (eqb (length m) size) fits f), and-right (eqb (length m) size && fits) (wellFormed r) e),
-        (leb-true _ _ (and-left (leb (before + b) most) (leb (p + 22 * b) (length t)) g), leb-true _ _ (and-right (leb (before + b) most) (leb (p + 22 * b) (length t)) g)),
-      )
-
   pub all : (o : Told) (m′ t′ : List ℕ) → roomy p before b r m t ≡ true → Listed (runOf b r m) (before + 1) p t o m′ t′
       → Listed (trailOf p before b r m t) (before + 1) p t o m′ t′
   all o m′ t′ e = subst (λ (v : Bool). Listed (runOf b r m) (before + 1) p t o m′ t′ → Listed (pick v (runOf b r m) (ends 0 r m)) (before + 1) p t o m′ t′) (sym e) (λ x. x)

@@ -1,3 +1,3 @@
-// Cycles over a memory with their lines in a text: whole instructions as far as they go, and the lines that these leave.
+// Cycles over a memory with their lines in a text, up to the first that is refused.
 pub mod trail;
 pub mod types;

@@ -1,9 +1,8 @@
 use borrow.Author.Needs.{needs}
 use Prim.Native.Nat.{_-_}
-use mathlib.Core.Path.{_∙_}
 use native.Mathlib.Omega.{arith}
 use Rattle.run.proofs.Laws.{turned}
-use Rattle.trail.proofs.Walks.{Going, going-start, going-on, going-ahead, going-stop, going-end, one-more}
+use Rattle.trail.proofs.Going.{Going, going-start, going-on, going-ahead, going-stop, going-end, one-more}
 use Rattle.trail.proofs.trail.cycles.Statement.{statement}
 use Rattle.trail.proofs.trail.cycles.Tie as tie
 
@@ -20,21 +19,14 @@ loop-holds c = going-start _ _ _ _ _ _ (c .before .before .pre .1 .1) (c .before
 add-ahead : tie.Need-add-ahead Inv-loop μ-loop
 add-ahead c = omega (arith, c .before .before .loop-test .taken, c .before .before .before .before .before .before .pre .1 .0)
 
-add-ahead-2 : tie.Need-add-ahead-2 Inv-loop μ-loop
-add-ahead-2 c = omega (arith, c .before .before .loop-test .taken, c .before .before .before .before .before .before .pre .1 .0)
-
 sub-ahead : tie.Need-sub-ahead Inv-loop μ-loop
 sub-ahead c = omega (arith, c .before .before .loop-test .taken, c .before .before .before .before .before .before .pre .1 .0)
 
 ahead-requires : tie.Need-ahead-requires Inv-loop μ-loop
-ahead-requires c κs =
-    let h = c .before .before .before .before .before .before .pre in
-    let i = c .before .before .before .loop .inv in
-    let n = c .before .before .loop-test .taken in
-    ((i .bank ∙ h .0 .0, i .well, omega (arith, n)), (omega (arith, n, h .1 .0), i .room))
+ahead-requires c κs = search needs
 
 add-done : tie.Need-add-done Inv-loop μ-loop
-add-done c = omega (arith, c .before .before .before .before .before .before .ahead .ensures .1 .0, c .before .before .before .before .before .before .before .before .before .loop-test .taken, c .before .before .before .before .before .before .before .before .before .before .before .before .before .pre .1 .0)
+add-done c = omega (arith, c .before .before .before .before .before .before .ahead .ensures .1 .2, c .before .before .before .before .before .before .before .before .before .loop-test .taken, c .before .before .before .before .before .before .before .before .before .before .before .before .before .pre .1 .0)
 
 well-micro-requires : tie.Need-well-micro-requires Inv-loop μ-loop
 well-micro-requires c κs = search needs
@@ -56,47 +48,47 @@ told-requires c κs = search needs
 
 same-length : tie.Need-same-length Inv-loop μ-loop
 same-length c =
-    let z = going-ahead _ _ _ _ _ _ _ _ _ _ _ (c .before .before .before .before .before .before .before .before .before .before .before .before .before .before .before .before .before .before .before .loop .inv) _ _ _ (c .before .before .before .before .before .before .before .before .before .before .before .before .before .before .before .before .before .before .before .before .before .before .pre .1 .0) (c .before .before .before .before .before .before .before .before .before .before .before .before .before .before .before .ahead .ensures .0) (c .before .before .before .before .before .before .before .before .before .before .before .before .before .before .before .ahead .ensures .1 .0) in
+    let z = going-ahead _ _ _ _ _ _ _ _ _ _ _ (c .before .before .before .before .before .before .before .before .before .before .before .before .before .before .before .before .before .before .before .loop .inv) _ _ _ _ (c .before .before .before .before .before .before .before .before .before .before .before .before .before .before .before .before .before .before .loop-test .taken) (c .before .before .before .before .before .before .before .before .before .before .before .before .before .before .before .before .before .before .before .before .before .before .pre .1 .0) (c .before .before .before .before .before .before .before .before .before .before .before .before .before .before .before .ahead .ensures) in
     omega (arith, c .before .before .before .before .before .before .turn .kept .1 .1 .0, z .bank)
 
 same-length-2 : tie.Need-same-length-2 Inv-loop μ-loop
 same-length-2 c =
-    let z = going-ahead _ _ _ _ _ _ _ _ _ _ _ (c .before .before .before .before .before .before .before .before .before .before .before .before .before .before .before .before .before .before .before .loop .inv) _ _ _ (c .before .before .before .before .before .before .before .before .before .before .before .before .before .before .before .before .before .before .before .before .before .before .pre .1 .0) (c .before .before .before .before .before .before .before .before .before .before .before .before .before .before .before .ahead .ensures .0) (c .before .before .before .before .before .before .before .before .before .before .before .before .before .before .before .ahead .ensures .1 .0) in
+    let z = going-ahead _ _ _ _ _ _ _ _ _ _ _ (c .before .before .before .before .before .before .before .before .before .before .before .before .before .before .before .before .before .before .before .loop .inv) _ _ _ _ (c .before .before .before .before .before .before .before .before .before .before .before .before .before .before .before .before .before .before .loop-test .taken) (c .before .before .before .before .before .before .before .before .before .before .before .before .before .before .before .before .before .before .before .before .before .before .pre .1 .0) (c .before .before .before .before .before .before .before .before .before .before .before .before .before .before .before .ahead .ensures) in
     omega (arith, z .size)
 
 returns : tie.Need-returns Inv-loop μ-loop
 returns c =
-    let z = going-ahead _ _ _ _ _ _ _ _ _ _ _ (c .before .before .before .before .before .before .before .before .before .before .before .before .before .before .before .before .before .before .before .loop .inv) _ _ _ (c .before .before .before .before .before .before .before .before .before .before .before .before .before .before .before .before .before .before .before .before .before .before .pre .1 .0) (c .before .before .before .before .before .before .before .before .before .before .before .before .before .before .before .ahead .ensures .0) (c .before .before .before .before .before .before .before .before .before .before .before .before .before .before .before .ahead .ensures .1 .0) in
+    let z = going-ahead _ _ _ _ _ _ _ _ _ _ _ (c .before .before .before .before .before .before .before .before .before .before .before .before .before .before .before .before .before .before .before .loop .inv) _ _ _ _ (c .before .before .before .before .before .before .before .before .before .before .before .before .before .before .before .before .before .before .loop-test .taken) (c .before .before .before .before .before .before .before .before .before .before .before .before .before .before .before .before .before .before .before .before .before .before .pre .1 .0) (c .before .before .before .before .before .before .before .before .before .before .before .before .before .before .before .ahead .ensures) in
     let y = c .before .before .before .before .before .before .turn .ensures in
     let t = turned _ _ _ _ (z .well) (c .before .before .before .before .before .before .before .before .well-micro .ensures) (y .0) in
     let u = c .before .before .enum-told .given .1 in
-    rw (c .told .ensures, c .before .refused-by .ensures, u) (going-stop _ _ _ _ _ _ _ _ _ _ _ z _ _ _ (one-more _ _ _ (c .before .before .before .before .before .before .before .before .before .before .before .before .before .before .before .ahead .ensures .1 .0)) t (y .1) u)
+    rw (c .told .ensures, c .before .refused-by .ensures, u) (going-stop _ _ _ _ _ _ _ _ _ _ _ z _ _ _ (one-more _ _ _ (c .before .before .before .before .before .before .before .before .before .before .before .before .before .before .before .before .before .before .loop-test .taken) (c .before .before .before .before .before .before .before .before .before .before .before .before .before .before .before .ahead .ensures .1 .2)) t (y .1) u)
 
 add-put-line : tie.Need-add-put-line Inv-loop μ-loop
-add-put-line c = omega (arith, c .before .before .before .before .before .before .before .before .before .before .before .before .before .before .before .ahead .ensures .1 .0, c .before .before .before .before .before .before .before .before .before .before .before .before .before .before .before .before .before .before .loop-test .taken, c .before .before .before .before .before .before .before .before .before .before .before .before .before .before .before .before .before .before .before .before .before .before .pre .1 .0)
+add-put-line c = omega (arith, c .before .before .before .before .before .before .before .before .before .before .before .before .before .before .before .ahead .ensures .1 .2, c .before .before .before .before .before .before .before .before .before .before .before .before .before .before .before .before .before .before .loop-test .taken, c .before .before .before .before .before .before .before .before .before .before .before .before .before .before .before .before .before .before .before .before .before .before .pre .1 .0)
 
 add-put-line-2 : tie.Need-add-put-line-2 Inv-loop μ-loop
-add-put-line-2 c = omega (arith, c .before .before .before .before .before .before .before .before .before .before .before .before .before .before .before .ahead .ensures .1 .0, c .before .before .before .before .before .before .before .before .before .before .before .before .before .before .before .before .before .before .loop-test .taken, c .before .before .before .before .before .before .before .before .before .before .before .before .before .before .before .before .before .before .before .before .before .before .pre .1 .0)
+add-put-line-2 c = omega (arith, c .before .before .before .before .before .before .before .before .before .before .before .before .before .before .before .ahead .ensures .1 .2, c .before .before .before .before .before .before .before .before .before .before .before .before .before .before .before .before .before .before .loop-test .taken, c .before .before .before .before .before .before .before .before .before .before .before .before .before .before .before .before .before .before .before .before .before .before .pre .1 .0)
 
 put-line-requires : tie.Need-put-line-requires Inv-loop μ-loop
 put-line-requires c κs = search needs
 
 add-done-2 : tie.Need-add-done-2 Inv-loop μ-loop
-add-done-2 c = omega (arith, c .before .before .before .before .before .before .before .before .before .before .before .before .before .before .before .before .before .before .ahead .ensures .1 .0, c .before .before .before .before .before .before .before .before .before .before .before .before .before .before .before .before .before .before .before .before .before .loop-test .taken, c .before .before .before .before .before .before .before .before .before .before .before .before .before .before .before .before .before .before .before .before .before .before .before .before .before .pre .1 .0)
+add-done-2 c = omega (arith, c .before .before .before .before .before .before .before .before .before .before .before .before .before .before .before .before .before .before .ahead .ensures .1 .2, c .before .before .before .before .before .before .before .before .before .before .before .before .before .before .before .before .before .before .before .before .before .loop-test .taken, c .before .before .before .before .before .before .before .before .before .before .before .before .before .before .before .before .before .before .before .before .before .before .before .before .before .pre .1 .0)
 
 loop-less : tie.Need-loop-less Inv-loop μ-loop
-loop-less c = omega (arith, c .before .before .before .before .before .before .before .before .before .before .before .before .before .before .before .before .before .before .ahead .ensures .1 .0, c .before .before .before .before .before .before .before .before .before .before .before .before .before .before .before .before .before .before .before .before .before .loop-test .taken)
+loop-less c = omega (arith, c .before .before .before .before .before .before .before .before .before .before .before .before .before .before .before .before .before .before .ahead .ensures .1 .2, c .before .before .before .before .before .before .before .before .before .before .before .before .before .before .before .before .before .before .before .before .before .loop-test .taken)
 
 loop-again : tie.Need-loop-again Inv-loop μ-loop
 loop-again c =
-    let z = going-ahead _ _ _ _ _ _ _ _ _ _ _ (c .before .before .before .before .before .before .before .before .before .before .before .before .before .before .before .before .before .before .before .before .before .before .loop .inv) _ _ _ (c .before .before .before .before .before .before .before .before .before .before .before .before .before .before .before .before .before .before .before .before .before .before .before .before .before .pre .1 .0) (c .before .before .before .before .before .before .before .before .before .before .before .before .before .before .before .before .before .before .ahead .ensures .0) (c .before .before .before .before .before .before .before .before .before .before .before .before .before .before .before .before .before .before .ahead .ensures .1 .0) in
+    let z = going-ahead _ _ _ _ _ _ _ _ _ _ _ (c .before .before .before .before .before .before .before .before .before .before .before .before .before .before .before .before .before .before .before .before .before .before .loop .inv) _ _ _ _ (c .before .before .before .before .before .before .before .before .before .before .before .before .before .before .before .before .before .before .before .before .before .loop-test .taken) (c .before .before .before .before .before .before .before .before .before .before .before .before .before .before .before .before .before .before .before .before .before .before .before .before .before .pre .1 .0) (c .before .before .before .before .before .before .before .before .before .before .before .before .before .before .before .before .before .before .ahead .ensures) in
     let y = c .before .before .before .before .before .before .before .before .before .turn .ensures in
     let t = turned _ _ _ _ (z .well) (c .before .before .before .before .before .before .before .before .before .before .before .well-micro .ensures) (y .0) in
     going-on
     _ _ _ _ _ _ _ _ _ _ _
     z
     _ _ _ _ _ _
-    (one-more _ _ _ (c .before .before .before .before .before .before .before .before .before .before .before .before .before .before .before .before .before .before .ahead .ensures .1 .0))
+    (one-more _ _ _ (c .before .before .before .before .before .before .before .before .before .before .before .before .before .before .before .before .before .before .before .before .before .loop-test .taken) (c .before .before .before .before .before .before .before .before .before .before .before .before .before .before .before .before .before .before .ahead .ensures .1 .2))
     (c .before .before .before .before .before .before .before .before .before .before .before .before .before .before .before .before .before .before .before .before .before .before .before .before .before .pre .1 .0)
     t
     (y .1)
@@ -124,7 +116,6 @@ cycles-spec =
     μ-loop
     loop-holds
     add-ahead
-    add-ahead-2
     sub-ahead
     ahead-requires
     add-done

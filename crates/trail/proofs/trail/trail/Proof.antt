@@ -1,5 +1,6 @@
 use borrow.Author.Needs.{needs}
-use Rattle.trail.proofs.Whole.{parts, all, nothing}
+use Rattle.drive.proofs.Whole.{parts}
+use Rattle.trail.proofs.Whole.{all, nothing}
 use Rattle.trail.proofs.trail.trail.Statement.{statement}
 use Rattle.trail.proofs.trail.trail.Tie as tie
 

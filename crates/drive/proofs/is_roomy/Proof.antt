@@ -3,8 +3,8 @@ use native.Mathlib.Omega.{arith}
 use Rattle.trace.proofs.Laws.{room-none, room-some}
 use Rattle.run.specs.Runs.{most}
 use borrow.Author.Needs.{needs}
-use Rattle.trail.proofs.trail.is_roomy.Statement.{statement}
-use Rattle.trail.proofs.trail.is_roomy.Tie as tie
+use Rattle.drive.proofs.is_roomy.Statement.{statement}
+use Rattle.drive.proofs.is_roomy.Tie as tie
 
 returns : tie.Need-returns
 returns c = let x = c .before .args in rw (sym (room-none most (x .before) (x .budget) (omega arith)))

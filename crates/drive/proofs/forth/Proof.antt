@@ -1,8 +1,8 @@
 use mathlib.Core.Path.{sym, _∙_}
 use borrow.Author.Needs.{needs}
 use Rattle.run.proofs.Far.{far-fresh, far-not-fresh}
-use Rattle.trail.proofs.trail.ahead.Statement.{statement}
-use Rattle.trail.proofs.trail.ahead.Tie as tie
+use Rattle.drive.proofs.forth.Statement.{statement}
+use Rattle.drive.proofs.forth.Tie as tie
 
 is-fresh-requires : tie.Need-is-fresh-requires
 is-fresh-requires c κs = search needs
@@ -37,8 +37,8 @@ returns-2 c =
     let s = c .before .before .before .before .hauls .ensures in
     (s .0, (s .1 .0, s .1 .1 ∙ sym (far-not-fresh _ _ _ (sym (c .before .before .before .before .before .before .before .before .is-fresh .ensures) ∙ c .before .before .before .before .before .before .before .if1 .left))))
 
-pub ahead-spec : {M : Type 1} → statement M
-ahead-spec =
+pub forth-spec : {M : Type 1} → statement M
+forth-spec =
     tie.close
     (tie.spec
     is-fresh-requires

@@ -12,12 +12,12 @@ use Rattle.run.specs.Far.{stridesFar}
 use Rattle.run.proofs.ByOpcode.{stride-goes}
 use Rattle.run.proofs.Stretches.{cleared-is}
 use Rattle.run.proofs.Far.{far-start, far-more, far-stopped, far-ended, far-same}
-use Rattle.trail.specs.Trails.{walk, Walked}
-use Rattle.trail.specs.declared.types.Walk.{Walk}
+use Rattle.drive.specs.Drives.{walk, Walked}
+use Rattle.drive.specs.declared.types.Walk.{Walk}
 use Rattle.prints.specs.declared.Mark.{Mark}
-use Rattle.trail.proofs.Walks.{shows-start, walked-start, room-left, walked-stride, shows-on, walked-stop, walked-from, done-few, some-left, still-fits, seven-fit}
-use Rattle.trail.proofs.trail.strides.Statement.{statement}
-use Rattle.trail.proofs.trail.strides.Tie as tie
+use Rattle.drive.proofs.Walks.{shows-start, walked-start, room-left, walked-stride, shows-on, walked-stop, walked-from, done-few, some-left, still-fits, seven-fit}
+use Rattle.drive.proofs.strides.Statement.{statement}
+use Rattle.drive.proofs.strides.Tie as tie
 
 -- what is left of the budget, how far the cycles and their lines have got, and how many there are to be
 abbrev Inv-loop : tie.InvT-loop
@@ -81,52 +81,44 @@ returns c =
       (rw (c .walk-of .ensures) (omega (arith, i .0, i .1)), far-same strideOf strideMem 7 _ _ _ _ _ e f),
     )
 
-track-requires : tie.Need-track-requires Inv-loop μ-loop
-track-requires c κs = search needs
-
-put-track-requires : tie.Need-put-track-requires Inv-loop μ-loop
-put-track-requires c κs = search needs
+put-stride-requires : tie.Need-put-stride-requires Inv-loop μ-loop
+put-stride-requires c κs = search needs
 
 sub-left : tie.Need-sub-left Inv-loop μ-loop
 sub-left c =
-    let i = c .before .before .before .before .before .before .before .before .before .before .before .before .before .before .before .before .before .loop .inv in
-    let y = stride-goes _ _ (i .2 ∙ c .before .before .before .before .before .before .before .before .before .before .before .before .before .before .before .before .before .before .before .before .before .before .before .pre .0 .0) (i .5 .well) (i .3) (c .before .before .before .before .before .before .before .before .before .before .before .before .stride .ensures .1) _ _ (c .before .before .before .before .before .before .before .before .before .before .before .before .stride .ensures .0) in
-    omega (arith, y .1 .0, c .before .before .before .before .before .before .before .before .before .before .before .before .before .before .before .before .loop-test .taken)
+    let i = c .before .before .before .before .before .before .before .before .before .before .before .before .before .before .before .before .loop .inv in
+    let y = stride-goes _ _ (i .2 ∙ c .before .before .before .before .before .before .before .before .before .before .before .before .before .before .before .before .before .before .before .before .before .before .pre .0 .0) (i .5 .well) (i .3) (c .before .before .before .before .before .before .before .before .before .before .before .stride .ensures .1) _ _ (c .before .before .before .before .before .before .before .before .before .before .before .stride .ensures .0) in
+    omega (arith, y .1 .0, c .before .before .before .before .before .before .before .before .before .before .before .before .before .before .before .loop-test .taken)
 
 loop-less : tie.Need-loop-less Inv-loop μ-loop
 loop-less c =
-    let i = c .before .before .before .before .before .before .before .before .before .before .before .before .before .before .before .before .before .loop .inv in
-    let y = stride-goes _ _ (i .2 ∙ c .before .before .before .before .before .before .before .before .before .before .before .before .before .before .before .before .before .before .before .before .before .before .before .pre .0 .0) (i .5 .well) (i .3) (c .before .before .before .before .before .before .before .before .before .before .before .before .stride .ensures .1) _ _ (c .before .before .before .before .before .before .before .before .before .before .before .before .stride .ensures .0) in
-    omega (arith, y .1 .0, c .before .before .before .before .before .before .before .before .before .before .before .before .before .before .before .before .loop-test .taken, c .before .before .before .before .before .before .before .if1 .left)
+    let i = c .before .before .before .before .before .before .before .before .before .before .before .before .before .before .before .before .loop .inv in
+    let y = stride-goes _ _ (i .2 ∙ c .before .before .before .before .before .before .before .before .before .before .before .before .before .before .before .before .before .before .before .before .before .before .pre .0 .0) (i .5 .well) (i .3) (c .before .before .before .before .before .before .before .before .before .before .before .stride .ensures .1) _ _ (c .before .before .before .before .before .before .before .before .before .before .before .stride .ensures .0) in
+    omega (arith, y .1 .0, c .before .before .before .before .before .before .before .before .before .before .before .before .before .before .before .loop-test .taken, c .before .before .before .before .before .before .if1 .left)
 
 loop-again : tie.Need-loop-again Inv-loop μ-loop
 loop-again c =
-    let h = c .before .before .before .before .before .before .before .before .before .before .before .before .before .before .before .before .before .before .before .before .before .before .before .pre in
-    let i = c .before .before .before .before .before .before .before .before .before .before .before .before .before .before .before .before .before .loop .inv in
-    let y = stride-goes _ _ (i .2 ∙ c .before .before .before .before .before .before .before .before .before .before .before .before .before .before .before .before .before .before .before .before .before .before .before .pre .0 .0) (i .5 .well) (i .3) (c .before .before .before .before .before .before .before .before .before .before .before .before .stride .ensures .1) _ _ (c .before .before .before .before .before .before .before .before .before .before .before .before .stride .ensures .0) in
-    let n : 7 < c .before .before .before .before .before .before .before .before .before .before .before .before .before .before .before .before .before .loop .left = omega (arith, c .before .before .before .before .before .before .before .before .before .before .before .before .before .before .before .before .loop-test .taken) in
+    let h = c .before .before .before .before .before .before .before .before .before .before .before .before .before .before .before .before .before .before .before .before .before .before .pre in
+    let i = c .before .before .before .before .before .before .before .before .before .before .before .before .before .before .before .before .loop .inv in
+    let y = stride-goes _ _ (i .2 ∙ c .before .before .before .before .before .before .before .before .before .before .before .before .before .before .before .before .before .before .before .before .before .before .pre .0 .0) (i .5 .well) (i .3) (c .before .before .before .before .before .before .before .before .before .before .before .stride .ensures .1) _ _ (c .before .before .before .before .before .before .before .before .before .before .before .stride .ensures .0) in
+    let n : 7 < c .before .before .before .before .before .before .before .before .before .before .before .before .before .before .before .before .loop .left = omega (arith, c .before .before .before .before .before .before .before .before .before .before .before .before .before .before .before .loop-test .taken) in
     let u = room-left _ _ _ _ _ _ _ _ _ _ _ (i .0) (h .1 .0) (i .5) (i .4) (h .1 .1) in
-    let a = c .before .before .before .before .before .before .before .before .before .before .before .before .before .before .bytes-at .ensures in
-    let d = c .before .before .before .put-track .ensures in
+    let a = c .before .before .before .before .before .before .before .before .before .before .before .before .before .bytes-at .ensures in
+    let d = c .before .before .before .put-stride .ensures in
     let q = seven-fit _ _ _ 8 u n refl in
-    let k = c .before .before .before .before .before .before .before .before .before .before .before .before .stride .kept .1 .0 ∙ i .2 ∙ h .0 .0 in
-    let e = rw (
-      c .before .before .before .before .before .track .ensures,
-      a .0 .2,
-      a .0 .1,
-      a .0 .0,
-    ) at d in
+    let k = c .before .before .before .before .before .before .before .before .before .before .before .stride .kept .1 .0 ∙ i .2 ∙ h .0 .0 in
+    let e = rw (a .0 .2, a .0 .1, a .0 .0) at d in
     let b = a .1 in
     let v = rw (a .0 .2) at b in
-    let s = c .before .before .before .before .before .before .before .before .before .before .before .before .stride .ensures .1 in
-    let f = y .2 (c .before .before .before .before .before .before .before .if1 .left) in (
+    let s = c .before .before .before .before .before .before .before .before .before .before .before .stride .ensures .1 in
+    let f = y .2 (c .before .before .before .before .before .before .if1 .left) in (
       still-fits _ _ _ (i .0),
       some-left _ _ 8 (y .1 .0) n,
-      c .before .before .before .before .before .before .before .before .before .before .before .before .stride .kept .1 .0 ∙ i .2,
+      c .before .before .before .before .before .before .before .before .before .before .before .stride .kept .1 .0 ∙ i .2,
       y .1 .1,
       shows-on _ _ _ _ _ _ _ _ _ _ _ (i .0) (h .1 .0) (i .5) (i .4) _ _ _ _ _ _ (done-few _ _ 8 (y .1 .0) n) (y .0 .0) f q k e,
       walked-stride _ _ _ _ _ _ _ _ _ _ _ (i .0) (h .1 .0) (i .5) (i .4) _ _ _ _ _ (done-few _ _ 8 (y .1 .0) n) (y .0 .0) f q k e (y .0 .1) s v,
-      far-more strideOf strideMem 7 _ _ _ _ _ _ (i .0) (i .6) n _ _ (c .before .before .before .before .before .before .before .before .before .before .before .before .stride .ensures .0) (done-few _ _ 8 (y .1 .0) n) (c .before .before .before .before .before .before .before .if1 .left),
+      far-more strideOf strideMem 7 _ _ _ _ _ _ (i .0) (i .6) n _ _ (c .before .before .before .before .before .before .before .before .before .before .before .stride .ensures .0) (done-few _ _ 8 (y .1 .0) n) (c .before .before .before .before .before .before .if1 .left),
     )
 
 sub-walk-of-2 : tie.Need-sub-walk-of-2 Inv-loop μ-loop
@@ -168,8 +160,7 @@ strides-spec =
     same-length
     same-length-2
     returns
-    track-requires
-    put-track-requires
+    put-stride-requires
     sub-left
     loop-less
     loop-again

@@ -1,8 +1,8 @@
 use mathlib.Core.Path.{refl}
 use native.Mathlib.Omega.{arith}
 use borrow.Author.Needs.{needs}
-use Rattle.trail.proofs.trail.peek.Statement.{statement}
-use Rattle.trail.proofs.trail.peek.Tie as tie
+use Rattle.drive.proofs.peek.Statement.{statement}
+use Rattle.drive.proofs.peek.Tie as tie
 
 shared-slice-read-result : tie.Need-shared-slice-read-result
 shared-slice-read-result c = search needs

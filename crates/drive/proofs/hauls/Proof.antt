@@ -9,12 +9,12 @@ use Rattle.haul.specs.Hauls.{haulOf, haulMem}
 use Rattle.run.specs.Far.{haulsFar}
 use Rattle.run.proofs.ByOpcode.{haul-goes}
 use Rattle.run.proofs.Far.{far-start, far-more, far-stopped, far-ended}
-use Rattle.trail.specs.Trails.{walk, Walked}
-use Rattle.trail.specs.declared.types.Walk.{Walk}
+use Rattle.drive.specs.Drives.{walk, Walked}
+use Rattle.drive.specs.declared.types.Walk.{Walk}
 use Rattle.prints.specs.declared.Mark.{Mark}
-use Rattle.trail.proofs.Walks.{shows-start, walked-start, room-left, walked-haul, shows-on, walked-stop, done-few, some-left, still-fits, more-left, seven-fit}
-use Rattle.trail.proofs.trail.hauls.Statement.{statement}
-use Rattle.trail.proofs.trail.hauls.Tie as tie
+use Rattle.drive.proofs.Walks.{shows-start, walked-start, room-left, walked-haul, shows-on, walked-stop, done-few, some-left, still-fits, more-left, seven-fit}
+use Rattle.drive.proofs.hauls.Statement.{statement}
+use Rattle.drive.proofs.hauls.Tie as tie
 
 -- what is left of the budget, how far the cycles and their lines have got, and how many there are to be
 abbrev Inv-loop : tie.InvT-loop

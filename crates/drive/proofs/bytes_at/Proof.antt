@@ -1,6 +1,6 @@
 use borrow.Author.Needs.{needs}
-use Rattle.trail.proofs.trail.bytes_at.Statement.{statement}
-use Rattle.trail.proofs.trail.bytes_at.Tie as tie
+use Rattle.drive.proofs.bytes_at.Statement.{statement}
+use Rattle.drive.proofs.bytes_at.Tie as tie
 
 peek-requires : tie.Need-peek-requires
 peek-requires c κs = search needs
