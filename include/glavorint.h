@@ -13,6 +13,10 @@
  *     16  PBR  17  DBR  18  P: N V M X D I Z C from bit 7 down, in emulation too, where M and X are 1      19  E, 0 or 1
  *     20  address scratch    22  data scratch    24  bank scratch    25 to 31  reserved, 0
  *
+ * A record is well formed if: in emulation M and X are both set; with X set the high bytes of X and Y are 0; and where no opcode is held, or
+ * one of MVN and MVP (54, 44) with its next cycle 0, the scratch words are 0, and in emulation the high byte of S is 1. Every record that a
+ * function gives after an accepted cycle is well formed.
+ *
  * A session, GLAVORINT_SESSION bytes: a packed record, then the count of its completed cycles in 8 bytes, the low one first. At its top the
  * count stands still.
  *
@@ -22,6 +26,13 @@
  *      3  too little room for the text                   4  a record that isn't a packed one, or isn't well formed
  *      5  an opcode that isn't listed                    6  a cycle that the held opcode hasn't
  *      7  a request outside bank 0, in a run over memory
+ *
+ * Listed opcodes: ORA AND EOR ADC LDA CMP SBC # d a, BIT # d a, LDX LDY CPX CPY # d a, STA STX STY STZ d a, ASL ROL LSR ROR INC DEC on A, INX
+ * INY DEX DEY, TAX TAY TXA TYA TXY TYX TSX TXS TCS TSC TCD TDC, XBA XCE NOP WDM, CLC SEC CLI SEI CLD SED CLV REP SEP, PHA PHX PHY PHP PHB PHD
+ * PHK PLA PLX PLY PLP PLB PLD PEA PEI PER, the eight branches, BRA BRL, JMP a al (a) [a] (a,x), JSR a (a,x), JSL, RTS, RTL, MVN, MVP.
+ *
+ * A trace's text, fields parted by one tab and lines ended by one LF: the header `bus`, `1`; then for each cycle its number from 1 on, the
+ * kind O, P, D or I (opcode, program, data, invalid), R or W, six upper-case hex digits of the address, two of the byte.
  */
 #ifndef GLAVORINT_H
 #define GLAVORINT_H
@@ -34,6 +45,40 @@
 #define GLAVORINT_SESSION 40
 #define GLAVORINT_MEMORY 65536
 #define GLAVORINT_BUDGET 1000000
+
+/* Where the fields of a packed record stand; words are two bytes. */
+#define GLAVORINT_AT_EDITION 0
+#define GLAVORINT_AT_HELD 1
+#define GLAVORINT_AT_OPCODE 2
+#define GLAVORINT_AT_CYCLE 3
+#define GLAVORINT_AT_A 4
+#define GLAVORINT_AT_X 6
+#define GLAVORINT_AT_Y 8
+#define GLAVORINT_AT_S 10
+#define GLAVORINT_AT_D 12
+#define GLAVORINT_AT_PC 14
+#define GLAVORINT_AT_PBR 16
+#define GLAVORINT_AT_DBR 17
+#define GLAVORINT_AT_P 18
+#define GLAVORINT_AT_E 19
+#define GLAVORINT_AT_ADDRESS 20
+#define GLAVORINT_AT_DATA 22
+#define GLAVORINT_AT_BANK 24
+
+/* The kinds of a request. */
+#define GLAVORINT_OPCODE 0
+#define GLAVORINT_PROGRAM 1
+#define GLAVORINT_DATA 2
+#define GLAVORINT_INVALID 3
+
+/* The refusals. */
+#define GLAVORINT_REFUSED_MEMORY 1
+#define GLAVORINT_REFUSED_BUDGET 2
+#define GLAVORINT_REFUSED_ROOM 3
+#define GLAVORINT_REFUSED_RECORD 4
+#define GLAVORINT_REFUSED_OPCODE 5
+#define GLAVORINT_REFUSED_CYCLE 6
+#define GLAVORINT_REFUSED_BANK 7
 
 /* The room that a trace of so many cycles must find: a header of 6 bytes where no cycle was done before, and 22 bytes for each cycle. */
 #define GLAVORINT_ROOM(before, budget) (((before) == 0 ? (size_t)6 : (size_t)0) + (size_t)22 * (size_t)(budget))
@@ -62,7 +107,8 @@ uint64_t glavorint_run(uint8_t *record, size_t record_length, uint8_t *memory, s
 
 /* The same with a line of text for each completed cycle. A trace may be made in pieces: `before` says how many cycles were done in the pieces
  * before this one, its lines are numbered on from there, and the header is written where none were. Bits 0-23 completed cycles, 24-55 bytes of
- * text, 56-63 the refusal, or 0. 1, 2 and 3 come before a record's 4. */
+ * text, 56-63 the refusal, or 0. 1, 2 and 3 come before a record's 4; bytes that aren't a packed record leave the text as it was, a record that
+ * isn't well formed is refused after the header. What lies behind the written text stays as it was. */
 uint64_t glavorint_trace(uint8_t *record, size_t record_length, uint8_t *memory, size_t memory_length, uint8_t *text, size_t text_length,
                          uint32_t before, uint32_t budget);
 
@@ -72,8 +118,8 @@ uint8_t glavorint_session_answer(uint8_t *session, size_t session_length, uint8_
 uint8_t glavorint_session_cycle(uint8_t *session, size_t session_length, uint8_t *memory, size_t memory_length);
 
 /* At most `count` such cycles one after another, up to the first that is refused; any count will do. Bits 0-31 completed cycles, 32-39 the
- * refusal, or 0. Session and memory are those that the completed cycles come to. Bytes that aren't a session are refused whatever the count, with
- * 1 or else 4; a session only by a cycle, so a count of 0 refuses none. */
+ * refusal, or 0. Session and memory are those that the completed cycles come to. A memory of another length is refused with 1, and bytes that
+ * aren't a session with 4, whatever the count; a record that isn't well formed only where the count isn't 0. */
 uint64_t glavorint_session_cycles(uint8_t *session, size_t session_length, uint8_t *memory, size_t memory_length, uint32_t count);
 
 #ifdef __cplusplus

@@ -23,11 +23,11 @@ int main(void)
     memory[0x8000] = 0x18; /* CLC */
     memory[0x8001] = 0x69; /* ADC #01 */
     memory[0x8002] = 0x01;
-    record[0] = GLAVORINT_EDITION;
-    record[10] = 0xFF; /* S 01FF */
-    record[11] = 0x01;
-    record[15] = 0x80; /* PC 8000 */
-    record[18] = 0x30; /* M and X: 8-bit registers */
+    record[GLAVORINT_AT_EDITION] = GLAVORINT_EDITION;
+    record[GLAVORINT_AT_S] = 0xFF; /* S 01FF, low byte first */
+    record[GLAVORINT_AT_S + 1] = 0x01;
+    record[GLAVORINT_AT_PC + 1] = 0x80; /* PC 8000 */
+    record[GLAVORINT_AT_P] = 0x30; /* M and X: 8-bit registers */
 
     end = glavorint_trace(record, sizeof record, memory, sizeof memory, text, sizeof text, 0, 4);
     if (GLAVORINT_TRACE_REFUSAL(end) != 0) {

@@ -62,8 +62,8 @@ impl Session {
         Refusal::done(ffi::session_cycle(&mut self.bytes, memory))
     }
 
-    /// At most `count` cycles one after another, up to the first that is refused: [`Session::cycle`] so many times, by one call. Any count will do,
-    /// and with 0 nothing is refused.
+    /// At most `count` cycles one after another, up to the first that is refused: [`Session::cycle`] so many times, by one call. Any count will do;
+    /// a memory of another length is refused with 0 too, as by a run, and nothing else.
     ///
     /// ```
     /// use glavorint::{Record, Refusal, Session, MEMORY};

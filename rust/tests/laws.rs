@@ -546,7 +546,7 @@ fn a_refused_run_leaves_record_memory_and_text() {
     assert_eq!(session.cycle(&mut bytes), Err(Refusal::Memory));
     let none = session.cycles(&mut bytes, 4);
     assert_eq!((none.cycles, none.refusal), (0, Some(Refusal::Memory)));
-    assert_eq!(session.cycles(&mut bytes, 0).result(), Ok(0));
+    assert_eq!(session.cycles(&mut bytes, 0).refusal, Some(Refusal::Memory));
     assert!(session == Session::new(start) && bytes == memory[1..]);
 }
 

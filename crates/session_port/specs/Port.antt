@@ -98,15 +98,19 @@ courseOf (suc n) s m =
     (onward (courseOf n (cycledOver s m .session) (memoryOver s m)))
     (halts (cycledOver s m .number) (cycledOver s m .session) (memoryOver s m))
 
+-- a memory of another size is refused first, whatever the count, as by a run
+unfoldable pub courseOver : ℕ → Session → List ℕ → Course
+courseOver n s m = pick (eqb (length m) size) (courseOf n s m) (halts (numberOf Memory) s m)
+
 abbrev pub wentTo : Session → (cycles number : ℕ) → Went
 wentTo s c n = record { session = s; cycles = c; number = n }
 
 abbrev pub toldOf : Course → Went
 toldOf e = wentTo (e .session) (e .done) (e .number)
 
--- a session whose record isn't well formed, or a memory of another size
-abbrev pub unfitOf : (count len : ℕ) → Session → Went
-unfitOf c n s = wentTo s 0 (pick (eqb c 0) 0 (pick (eqb n size) (numberOf Malformed) (numberOf Memory)))
+-- a session whose record isn't well formed
+abbrev pub unfitOf : (count : ℕ) → Session → Went
+unfitOf c s = wentTo s 0 (pick (eqb c 0) 0 (numberOf Malformed))
 
 pub record Several : Type 0 where
   pub number : ℕ
@@ -118,7 +122,7 @@ abbrev pub severalTo : Course → Several
 severalTo e = record { number = e .number; done = e .done; bytes = packSession (e .session); mem = e .mem }
 
 abbrev pub cyclesBy : Opened → (b m : List ℕ) → ℕ → Several
-cyclesBy (Good s) b m n = severalTo (courseOf n s m)
+cyclesBy (Good s) b m n = severalTo (courseOver n s m)
 cyclesBy Bad b m n = record { number = noSession m; done = 0; bytes = b; mem = m }
 
 unfoldable pub sessionCycles : (b m : List ℕ) → ℕ → Several

@@ -6,7 +6,7 @@ ghost use Rattle.words.specs.Words.{pick};
 ghost use Rattle.cpu.specs.Record.{wellFormed};
 ghost use Rattle.run.specs.Runs.{told, runOf, size};
 ghost use Rattle.session.specs.Sessions.{sessionAt, countedOn};
-ghost use Rattle.session_port.specs.Port.{wentTo, courseOf, toldOf, unfitOf};
+ghost use Rattle.session_port.specs.Port.{wentTo, courseOver, toldOf, unfitOf};
 use crate::types::Went;
 use cpu::record::well_formed;
 use cpu::types::Record;
@@ -18,7 +18,6 @@ use run::types::Outcome;
 use session::session::count_on;
 use session::types::Session;
 use step::well_micro;
-use words::both;
 
 fn went(session: Session, cycles: u32, number: u8) -> Went
     ensures { λ w. ⌜ w ≡ wentTo session cycles number ⌝ }
@@ -71,26 +70,29 @@ pub fn unfit_by(len: usize) -> u8
     if len != 65536 { 1 } else { 4 }
 }
 
-// A session that can do no cycle, if one is asked for at all.
-fn unfit(s: Session, len: usize, count: u32) -> Went
-    ensures { λ w. ⌜ w ≡ unfitOf count len s ⌝ }
+// A session whose record isn't well formed, if a cycle is asked for at all.
+fn unfit(s: Session, count: u32) -> Went
+    ensures { λ w. ⌜ w ≡ unfitOf count s ⌝ }
 {
     if count == 0 {
         went(s, 0, 0)
     } else {
-        went(s, 0, unfit_by(len))
+        went(s, 0, 4)
     }
 }
 
 // At most `count` cycles over a lent memory, up to the first that is refused.
 pub fn repeated(s: Session, mem: &mut [u8], count: u32) -> Went
-    ensures { λ w. ⌜ (w ≡ toldOf (courseOf count s (now (mem .entry)))) × (now (mem .exit) ≡ courseOf count s (now (mem .entry)) .mem) ⌝ }
+    ensures { λ w. ⌜ (w ≡ toldOf (courseOver count s (now (mem .entry)))) × (now (mem .exit) ≡ courseOver count s (now (mem .entry)) .mem) ⌝ }
 {
+    if mem.len() != 65536 {
+        return went(s, 0, 1);
+    }
     let at = s.at;
-    let fit = both(mem.len() == 65536, well_formed(at));
-    if fit {
+    let well = well_formed(at);
+    if well {
         gone_on(s.cycles, paces(at, mem, count))
     } else {
-        unfit(s, mem.len(), count)
+        unfit(s, count)
     }
 }
