@@ -17,6 +17,7 @@ use Rattle.run.specs.Runs.{runOf, size, most}
 use Rattle.run.specs.Passes.{Passes}
 use Rattle.run.specs.Far.{aheadFar}
 use Rattle.run.proofs.Whole.{passes-none}
+use Rattle.run.proofs.Far.{far-inside}
 use Rattle.drive.specs.Drives.{walk, Walked, Driven, roomy, drivable, goneBy}
 use Rattle.drive.specs.declared.types.Walk.{Walk}
 
@@ -81,3 +82,13 @@ module _ (p before b : ℕ) (r : Record) (m t : List ℕ) where
   stayed e =
       let g : 0 ≡ goneBy p before b r m t = ap (λ (v : Bool). pick v (aheadFar b r m) 0) (sym e) in
       (subst (λ (i : ℕ). Driven i r m t (before + 1) p (walk 0 p r) m t) g none-driven, (passes-none r m, refl, omega arith))
+
+  -- inside an instruction
+  pub stayed-inside : (r .tcu ≡ 0 → ⊥) → Answered (walk 0 p r) m t
+  stayed-inside n =
+      let g : 0 ≡ goneBy p before b r m t = sym (by-none (drivable p before b r m t) (aheadFar b r m) (far-inside r n b m)) in
+      (subst (λ (i : ℕ). Driven i r m t (before + 1) p (walk 0 p r) m t) g none-driven, (passes-none r m, refl, omega arith))
+    where
+      by-none : (v : Bool) (k : ℕ) → k ≡ 0 → pick v k 0 ≡ 0
+      by-none true k e = e
+      by-none false k e = refl

@@ -164,7 +164,7 @@ pub fn is_roomy(before: u32, budget: u32, start: usize, len: usize) -> bool
 }
 
 // Whole instructions, or bytes of a move, as far as they go, with their lines from `start` on, `before` cycles having been done. Nothing is done where the memory
-// isn't 65,536 bytes, the cycles come to more than 1,000,000, a line may lack room, the record isn't well formed, or no cycle is asked for.
+// isn't 65,536 bytes, the cycles come to more than 1,000,000, a line may lack room, the record isn't well formed, or no cycle is asked for; nor inside an instruction.
 pub fn ahead(
     r: Record,
     mem: &mut [u8],
@@ -176,6 +176,9 @@ pub fn ahead(
     ensures { λ w. ⌜ Driven (goneBy start before budget r (now (mem .entry)) (now (text .entry))) r (now (mem .entry)) (now (text .entry)) (before + 1) start w (now (mem .exit)) (now (text .exit)) ⌝ }
     ensures passes { λ w. ⌜ Passes (w .cycles) r (now (mem .entry)) (w .after) (now (mem .exit)) × (wellFormed (w .after) ≡ wellFormed r) × (w .cycles ≤ budget - 1) ⌝ }
 {
+    if r.tcu != 0 {
+        return walk_of(0, start, r);
+    }
     let fit = both(
         both(
             mem.len() == 65536,

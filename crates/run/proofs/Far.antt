@@ -1,15 +1,17 @@
 -- How far a stretch goes, turn by turn: what a loop that counts what is left of its budget down has done once it ends.
 use Prim.Native.Nat.{ℕ, zero, suc, _+_, _-_, _≤_, _<_}
 use mathlib.Core.Path.{_≡_, refl, ap, sym, subst, _∙_}
-use mathlib.Core.Bool.{Bool, true, false}
+use mathlib.Core.Bool.{Bool, true, false, not, _&&_}
 use mathlib.Core.List.{List}
 use native.Mathlib.Omega.{arith}
 use lib.Dec.{eqb, ltb}
 use borrow.Author.Tests.{lt-ltb, le-ltb, eq-eqb, ne-eqb, eqb-false}
 use Rattle.words.specs.Words.{pick}
+use Rattle.cpu.specs.Record.{isMove}
 use Rattle.cpu.specs.declared.types.Record.{Record}
 use Rattle.stride.specs.declared.types.Stretch.{Stretch}
-use Rattle.stride.specs.Strides.{fresh}
+use Rattle.stride.specs.Strides.{fresh, whole, stretch}
+use Rattle.haul.specs.Hauls.{between, near, hauled, haulOf, haulMem}
 use Rattle.run.specs.Far.{far, stridesFar, haulsFar, aheadFar}
 
 -- by the two tests of a turn
@@ -94,3 +96,29 @@ far-fresh b r m e = ap (λ (t : Bool). pick t (stridesFar b r m) (haulsFar b r m
 
 pub far-not-fresh : (b : ℕ) (r : Record) (m : List ℕ) → fresh r ≡ false → aheadFar b r m ≡ haulsFar b r m
 far-not-fresh b r m e = ap (λ (t : Bool). pick t (stridesFar b r m) (haulsFar b r m)) e
+
+-- ---- inside an instruction nothing goes
+and-false : (a b : Bool) → (a && (b && false)) ≡ false
+and-false true true = refl
+and-false true false = refl
+and-false false b = refl
+
+not-hauled : (w : Bool) (s : Stretch) → s .cycles ≡ 0 → pick w s s .cycles ≡ 0
+not-hauled true s z = z
+not-hauled false s z = z
+
+module _ (r : Record) (inside : r .tcu ≡ 0 → ⊥) where
+  not-fresh : fresh r ≡ false
+  not-fresh = ap (λ (t : Bool). (eqb (r .pbr) 0 && not (r .held)) && (eqb (r .ir) 0 && t)) (ne-eqb (r .tcu) 0 inside) ∙ and-false (eqb (r .pbr) 0 && not (r .held)) (eqb (r .ir) 0)
+
+  not-between : between r ≡ false
+  not-between = ap (λ (t : Bool). (eqb (r .pbr) 0 && r .held) && (isMove (r .ir) && t)) (ne-eqb (r .tcu) 0 inside) ∙ and-false (eqb (r .pbr) 0 && r .held) (isMove (r .ir))
+
+  no-haul : (m : List ℕ) → haulOf r m .cycles ≡ 0
+  unfolding haulOf
+  no-haul m =
+      ap (λ (t : Bool). pick (whole m) (pick (t && near r m) (stretch 7 (hauled (eqb (r .ir) 0x54) r)) (stretch 0 r)) (stretch 0 r) .cycles) not-between
+      ∙ not-hauled (whole m) (stretch 0 r) refl
+
+  pub far-inside : (b : ℕ) (m : List ℕ) → aheadFar b r m ≡ 0
+  far-inside b m = far-not-fresh b r m not-fresh ∙ far-stop haulOf haulMem 8 b b r m (no-haul m)

@@ -73,13 +73,16 @@ fn hauls(r: Record, mem: &mut [u8], budget: u32) -> Stretch
     stretch_of(budget - left, at)
 }
 
-// Whole instructions, or bytes of a move, as far as they go.
+// Whole instructions, or bytes of a move, as far as they go: nowhere inside an instruction.
 fn ahead(r: Record, mem: &mut [u8], budget: u32) -> Stretch
     requires { ⌜ (length (now mem) ≡ size) × (wellFormed r ≡ true) × (0 < budget) ⌝ }
     ensures { λ t. ⌜ Goes r (now (mem .entry)) t (now (mem .exit)) ⌝ }
     ensures less { λ t. ⌜ t .cycles < budget ⌝ }
     ensures far { λ t. ⌜ t .cycles ≡ aheadFar budget r (now (mem .entry)) ⌝ }
 {
+    if r.tcu != 0 {
+        return stretch_of(0, r);
+    }
     let start = is_fresh(r);
     if start {
         strides(r, mem, budget)
