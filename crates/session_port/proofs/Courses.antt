@@ -48,10 +48,6 @@ pub other-size : (s : Session) (m : List ℕ) → eqb (length m) size ≡ false 
 unfolding cycledBy memoryBy
 other-size s m w = let h = own-cycle s m in (sym (h .0) ∙ rw w, sym (h .1) ∙ rw w)
 
-pub over-other : (n : ℕ) (s : Session) (m : List ℕ) → (length m ≡ size → ⊥) → courseOver n s m ≡ halts 1 s m
-unfolding courseOver
-over-other n s m h = rw (ne-eqb _ _ h)
-
 pub over-whole : (n : ℕ) (s : Session) (m : List ℕ) → length m ≡ size → courseOver n s m ≡ courseOf n s m
 unfolding courseOver
 over-whole n s m h = rw (eq-eqb _ _ h)

@@ -108,9 +108,9 @@ wentTo s c n = record { session = s; cycles = c; number = n }
 abbrev pub toldOf : Course → Went
 toldOf e = wentTo (e .session) (e .done) (e .number)
 
--- a session whose record isn't well formed
-abbrev pub unfitOf : (count : ℕ) → Session → Went
-unfitOf c s = wentTo s 0 (pick (eqb c 0) 0 (numberOf Malformed))
+-- a memory of another size, or a session whose record isn't well formed
+abbrev pub unfitOf : (count len : ℕ) → Session → Went
+unfitOf c n s = wentTo s 0 (pick (eqb n size) (pick (eqb c 0) 0 (numberOf Malformed)) (numberOf Memory))
 
 pub record Several : Type 0 where
   pub number : ℕ

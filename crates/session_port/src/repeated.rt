@@ -18,6 +18,7 @@ use run::types::Outcome;
 use session::session::count_on;
 use session::types::Session;
 use step::well_micro;
+use words::both;
 
 fn went(session: Session, cycles: u32, number: u8) -> Went
     ensures { λ w. ⌜ w ≡ wentTo session cycles number ⌝ }
@@ -70,10 +71,13 @@ pub fn unfit_by(len: usize) -> u8
     if len != 65536 { 1 } else { 4 }
 }
 
-// A session whose record isn't well formed, if a cycle is asked for at all.
-fn unfit(s: Session, count: u32) -> Went
-    ensures { λ w. ⌜ w ≡ unfitOf count s ⌝ }
+// Why a session does no cycle: 1 for a memory of another size; 4 for its record, if a cycle is asked for at all.
+fn unfit(s: Session, len: usize, count: u32) -> Went
+    ensures { λ w. ⌜ w ≡ unfitOf count len s ⌝ }
 {
+    if len != 65536 {
+        return went(s, 0, 1);
+    }
     if count == 0 {
         went(s, 0, 0)
     } else {
@@ -85,14 +89,11 @@ fn unfit(s: Session, count: u32) -> Went
 pub fn repeated(s: Session, mem: &mut [u8], count: u32) -> Went
     ensures { λ w. ⌜ (w ≡ toldOf (courseOver count s (now (mem .entry)))) × (now (mem .exit) ≡ courseOver count s (now (mem .entry)) .mem) ⌝ }
 {
-    if mem.len() != 65536 {
-        return went(s, 0, 1);
-    }
     let at = s.at;
-    let well = well_formed(at);
-    if well {
+    let fit = both(mem.len() == 65536, well_formed(at));
+    if fit {
         gone_on(s.cycles, paces(at, mem, count))
     } else {
-        unfit(s, count)
+        unfit(s, mem.len(), count)
     }
 }
