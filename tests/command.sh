@@ -61,6 +61,18 @@ unfit() {
   told "$name" 2 "$work/nothing" "$work/line" "$@"
 }
 
+# full NAME WORDS..: what can't be written for want of room is said once.
+full() {
+  name=$1
+  shift
+  complaint 'standard output: No space left on device'
+  "$root/glavorint" "$@" >/dev/full 2>"$work/err" </dev/null
+  got=$?
+  [ "$got" = 2 ] || fail "$name: status $got, not 2: $(cat "$work/err")"
+  cmp -s "$work/line" "$work/err" || fail "$name: not on standard error as expected: $(diff "$work/line" "$work/err" | head -n 5)"
+  passed=$((passed + 1))
+}
+
 # image FILE [PLACE OCTAL..]..: 65,536 zeros with bytes at places.
 image() {
   file=$1
@@ -160,7 +172,19 @@ ended '--out of a memory that is refused' 1 0 "$start $none" "the memory isn't 6
 three none 4 "0001 0000 0000 01FF 0000 8003 00 00 30 0 $none"
 complaint "the memory isn't written: $work/no/file: No such file or directory"
 told '--out into no folder' 2 "$work/lines" "$work/line" run "$work/small" $start 4 --out "$work/no/file"
+three 5 2 "0000 0000 0000 01FF 0000 8001 00 00 30 0 $none"
+echo "glavorint: refused with 5: the opcode held, or just fetched, isn't listed" >>"$work/line"
+told '--out into no folder, of a run that is refused' 2 "$work/lines" "$work/line" run "$work/unlisted" $start 4 --out "$work/no/file"
 unfit '--out to what is no file' "the memory isn't written: /dev/null isn't a file" run "$work/small" $start 4 --out /dev/null
+
+for n in 1 2 3 4 5; do
+  "$root/glavorint" run "$work/small" $start 14 --out "$work/left$n" 2>"$work/err" | :
+  cmp -s "$work/expected" "$work/left$n" || fail '--out with a reader who leaves: not the memory expected'
+  [ ! -s "$work/err" ] || fail "--out with a reader who leaves: $(cat "$work/err")"
+  passed=$((passed + 1))
+done
+full 'a run to a full device' run "$work/small" $start 14 --out "$work/full"
+cmp -s "$work/expected" "$work/full" || fail '--out with a full device: not the memory expected'
 
 # ---- going on inside an instruction
 
@@ -200,6 +224,13 @@ told 'a trace above the budget' 1 "$work/nothing" "$work/lines" trace "$work/sma
 three 1 0 "$start $none"
 echo "glavorint: refused with 1: the memory isn't 65,536 bytes" >>"$work/lines"
 told 'a trace of a short memory' 1 "$work/nothing" "$work/lines" trace "$work/short" $start 4
+{
+  echo "glavorint: the memory isn't written: $work/no/file: No such file or directory"
+  printf 'refusal none\ncycles 4\nrecord %s\n' "0001 0000 0000 01FF 0000 8003 00 00 30 0 $none"
+} >"$work/lines"
+told 'a trace with --out into no folder' 2 "$work/paper" "$work/lines" trace "$work/small" $start 4 --out "$work/no/file"
+full 'a trace to a full device' trace "$work/small" $start 4 --out "$work/cut"
+[ ! -e "$work/cut" ] || fail '--out of a trace that was cut short: a file is made'
 # BRA to itself: O, P, I, over and over
 awk 'BEGIN {
   print "bus\t1"
