@@ -101,6 +101,8 @@ three none 4 "0001 0000 0000 01FF 0000 8003 00 00 30 0 $none"
 told 'run' 0 "$work/lines" "$work/nothing" run "$work/small" $start 4
 told 'words of fewer digits, in either case' 0 "$work/lines" "$work/nothing" run "$work/small" 0 0 00 1fF 0 8000 0 0 30 0 4
 told 'sixteen words' 0 "$work/lines" "$work/nothing" run "$work/small" $start $none 4
+told 'opcode and cycle where none is held' 0 "$work/lines" "$work/nothing" run "$work/small" $start 0 02 07 0 0 0 4
+told 'a budget with zeros before it' 0 "$work/lines" "$work/nothing" run "$work/small" $start 0000000004
 three none 0 "$start $none"
 told 'budget 0' 0 "$work/lines" "$work/nothing" run "$work/small" $start 0
 image "$work/loop" 32768 '\200\376'
@@ -137,10 +139,10 @@ unfit 'E of 2' "E: '2' isn't 0 or 1 (refusal 4)" run "$work/small" 0 0 0 1FF 0 8
 unfit 'held of 2' "HELD: '2' isn't 0 or 1 (refusal 4)" run "$work/small" $start 2 00 00 0 0 0 4
 unfit 'a word of two lines' "BANK: 'a?b' isn't 1 or 2 hex digits (refusal 4)" run "$work/small" $start 0 0 0 0 0 'a
 b' 4
-unfit 'a budget that is no number' "BUDGET: '4x' isn't a decimal number up to 4,294,967,295 (refusal 2)" run "$work/small" $start 4x
-unfit 'a budget below 0' "BUDGET: '-1' isn't a decimal number up to 4,294,967,295 (refusal 2)" run "$work/small" $start -1
-unfit 'a budget past 32 bits' "BUDGET: '4294967296' isn't a decimal number up to 4,294,967,295 (refusal 2)" run "$work/small" $start 4294967296
-unfit 'a budget of 11 digits' "BUDGET: '00000000004' isn't a decimal number up to 4,294,967,295 (refusal 2)" run "$work/small" $start 00000000004
+unfit 'a budget that is no number' "BUDGET: '4x' isn't a decimal number of 1 to 10 digits, at most 1,000,000 (refusal 2)" run "$work/small" $start 4x
+unfit 'a budget below 0' "BUDGET: '-1' isn't a decimal number of 1 to 10 digits, at most 1,000,000 (refusal 2)" run "$work/small" $start -1
+unfit 'a budget past 32 bits' "BUDGET: '4294967296' isn't a decimal number of 1 to 10 digits, at most 1,000,000 (refusal 2)" run "$work/small" $start 4294967296
+unfit 'a budget of 11 digits' "BUDGET: '00000000004' isn't a decimal number of 1 to 10 digits, at most 1,000,000 (refusal 2)" run "$work/small" $start 00000000004
 unfit 'no such image' "the image can't be read (refusal 1): $work/none: No such file or directory" run "$work/none" $start 4
 unfit 'a folder for an image' "the image can't be read (refusal 1): $work: Is a directory" run "$work" $start 4
 usage='usage: run|trace IMAGE A X Y S D PC PBR DBR P E [HELD OPCODE CYCLE ADDRESS DATA BANK] BUDGET [--out FILE]'
