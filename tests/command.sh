@@ -258,8 +258,10 @@ passed=$((passed + 2))
 # ---- step
 
 input=crates/byhand/stdin
-told 'a session' 0 crates/byhand/stdout "$work/nothing" step $start
+told 'a session with a byte that is refused' 1 crates/byhand/stdout "$work/nothing" step $start
 input=$work/typed
+awk '{ printf "%s\r\n", $0 }' crates/byhand/stdin >"$work/typed"
+told 'lines that end by CR and LF' 1 crates/byhand/stdout "$work/nothing" step $start
 printf 'quit\n' >"$work/typed"
 printf '1\tO\tR\t008000\ncycles 0\nrecord %s\n' "$start $none" >"$work/lines"
 told 'quit' 0 "$work/lines" "$work/nothing" step $start
@@ -271,6 +273,13 @@ told 'a last line without its end' 0 "$work/lines" "$work/nothing" step $start
 printf 'recording of nine\n' >"$work/typed"
 printf '1\tO\tR\t008000\n? two hex digits, record or quit\ncycles 0\nrecord %s\n' "$start $none" >"$work/lines"
 told 'a long line' 0 "$work/lines" "$work/nothing" step $start
+input=$work
+printf '1\tO\tR\t008000\n' >"$work/lines"
+complaint 'standard input: Is a directory'
+told 'a folder for input' 2 "$work/lines" "$work/line" step $start
+input=$work/typed
+full 'a session to a full device' step $start
+full 'a refused session to a full device' step $odd
 printf 'refusal 4\nrecord %s\n' "$odd $none" >"$work/lines"
 complaint "refused with 4: the record isn't well formed"
 told 'a session refused with 4' 1 "$work/lines" "$work/line" step $odd
