@@ -1,9 +1,9 @@
 #!/bin/sh
-# The command: every subcommand, refusal, complaint and status, byte for byte. Run it after `rt check tanker drover byhand replay`.
+# The command: every subcommand, refusal, complaint and status, byte for byte. Run it after `rt check farmyard tanker drover byhand replay`.
 set -u
 cd "$(dirname "$0")/.." || exit 2
 root=$(pwd)
-for program in tanker drover byhand replay; do
+for program in farmyard tanker drover byhand replay; do
   if [ ! -x "target/bin/$program" ]; then
     echo "command: target/bin/$program is missing: run 'rt check $program' first"
     exit 2
@@ -91,7 +91,7 @@ start='0000 0000 0000 01FF 0000 8000 00 00 30 0'
 none='0 00 00 0000 0000 00'
 
 # Where a source was touched since, the command looks first whether all is proved, and says so; here it has done that before the cases.
-for words in 'run' 'trace' 'step' "replay $work/none"; do
+for words in '' 'run' 'trace' 'step' "replay $work/none"; do
   "$root/glavorint" $words >"$work/out" 2>&1
 done
 
@@ -289,6 +289,11 @@ told 'a session refused with 6' 1 "$work/lines" "$work/line" step $start 1 18 02
 unfit 'a word of a session' "X: 'x' isn't 1 to 4 hex digits (refusal 4)" step 0 x 0 1FF 0 8000 0 0 30 0
 unfit 'a session of nine words' 'usage: step A X Y S D PC PBR DBR P E [HELD OPCODE CYCLE ADDRESS DATA BANK]' step 0 0 0 0 0 0 0 0 0
 input=
+
+# ---- the day
+
+told 'the day' 0 crates/farmyard/stdout "$work/nothing"
+full 'the day to a full device'
 
 # ---- replay and help
 
