@@ -306,6 +306,8 @@ echo "refused: cannot open $work/none" >"$work/lines"
 echo "$work/none: No such file or directory" >"$work/line"
 told 'no such list' 2 "$work/lines" "$work/line" replay "$work/none"
 unfit 'replay of nothing' 'usage: replay FILE' replay
+echo '0 lines: 0 agree, 0 differ, 0 bad' >"$work/lines"
+told 'an empty list' 0 "$work/lines" "$work/nothing" replay "$work/nothing"
 "$root/glavorint" help >"$work/help"
 told 'help' 0 "$work/help" "$work/nothing" --help
 for n in 1 2 3 4 5 6 7; do
