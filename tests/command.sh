@@ -1,9 +1,9 @@
 #!/bin/sh
-# The command: every subcommand, refusal, complaint and status, byte for byte. Run it after `rt check tanker drover byhand replay`.
+# The command: every subcommand, refusal, complaint and status, byte for byte. Run it after `rt check farmyard tanker drover byhand replay`.
 set -u
 cd "$(dirname "$0")/.." || exit 2
 root=$(pwd)
-for program in tanker drover byhand replay; do
+for program in farmyard tanker drover byhand replay; do
   if [ ! -x "target/bin/$program" ]; then
     echo "command: target/bin/$program is missing: run 'rt check $program' first"
     exit 2
@@ -61,6 +61,18 @@ unfit() {
   told "$name" 2 "$work/nothing" "$work/line" "$@"
 }
 
+# full NAME WORDS..: what can't be written for want of room is said once.
+full() {
+  name=$1
+  shift
+  complaint 'standard output: No space left on device'
+  "$root/glavorint" "$@" >/dev/full 2>"$work/err" </dev/null
+  got=$?
+  [ "$got" = 2 ] || fail "$name: status $got, not 2: $(cat "$work/err")"
+  cmp -s "$work/line" "$work/err" || fail "$name: not on standard error as expected: $(diff "$work/line" "$work/err" | head -n 5)"
+  passed=$((passed + 1))
+}
+
 # image FILE [PLACE OCTAL..]..: 65,536 zeros with bytes at places.
 image() {
   file=$1
@@ -79,7 +91,7 @@ start='0000 0000 0000 01FF 0000 8000 00 00 30 0'
 none='0 00 00 0000 0000 00'
 
 # Where a source was touched since, the command looks first whether all is proved, and says so; here it has done that before the cases.
-for words in 'run' 'trace' 'step' "replay $work/none"; do
+for words in '' 'run' 'trace' 'step' "replay $work/none"; do
   "$root/glavorint" $words >"$work/out" 2>&1
 done
 
@@ -89,6 +101,8 @@ three none 4 "0001 0000 0000 01FF 0000 8003 00 00 30 0 $none"
 told 'run' 0 "$work/lines" "$work/nothing" run "$work/small" $start 4
 told 'words of fewer digits, in either case' 0 "$work/lines" "$work/nothing" run "$work/small" 0 0 00 1fF 0 8000 0 0 30 0 4
 told 'sixteen words' 0 "$work/lines" "$work/nothing" run "$work/small" $start $none 4
+told 'opcode and cycle where none is held' 0 "$work/lines" "$work/nothing" run "$work/small" $start 0 02 07 0 0 0 4
+told 'a budget with zeros before it' 0 "$work/lines" "$work/nothing" run "$work/small" $start 0000000004
 three none 0 "$start $none"
 told 'budget 0' 0 "$work/lines" "$work/nothing" run "$work/small" $start 0
 image "$work/loop" 32768 '\200\376'
@@ -125,10 +139,10 @@ unfit 'E of 2' "E: '2' isn't 0 or 1 (refusal 4)" run "$work/small" 0 0 0 1FF 0 8
 unfit 'held of 2' "HELD: '2' isn't 0 or 1 (refusal 4)" run "$work/small" $start 2 00 00 0 0 0 4
 unfit 'a word of two lines' "BANK: 'a?b' isn't 1 or 2 hex digits (refusal 4)" run "$work/small" $start 0 0 0 0 0 'a
 b' 4
-unfit 'a budget that is no number' "BUDGET: '4x' isn't a decimal number up to 4,294,967,295 (refusal 2)" run "$work/small" $start 4x
-unfit 'a budget below 0' "BUDGET: '-1' isn't a decimal number up to 4,294,967,295 (refusal 2)" run "$work/small" $start -1
-unfit 'a budget past 32 bits' "BUDGET: '4294967296' isn't a decimal number up to 4,294,967,295 (refusal 2)" run "$work/small" $start 4294967296
-unfit 'a budget of 11 digits' "BUDGET: '00000000004' isn't a decimal number up to 4,294,967,295 (refusal 2)" run "$work/small" $start 00000000004
+unfit 'a budget that is no number' "BUDGET: '4x' isn't a decimal number of 1 to 10 digits, at most 1,000,000 (refusal 2)" run "$work/small" $start 4x
+unfit 'a budget below 0' "BUDGET: '-1' isn't a decimal number of 1 to 10 digits, at most 1,000,000 (refusal 2)" run "$work/small" $start -1
+unfit 'a budget past 32 bits' "BUDGET: '4294967296' isn't a decimal number of 1 to 10 digits, at most 1,000,000 (refusal 2)" run "$work/small" $start 4294967296
+unfit 'a budget of 11 digits' "BUDGET: '00000000004' isn't a decimal number of 1 to 10 digits, at most 1,000,000 (refusal 2)" run "$work/small" $start 00000000004
 unfit 'no such image' "the image can't be read (refusal 1): $work/none: No such file or directory" run "$work/none" $start 4
 unfit 'a folder for an image' "the image can't be read (refusal 1): $work: Is a directory" run "$work" $start 4
 usage='usage: run|trace IMAGE A X Y S D PC PBR DBR P E [HELD OPCODE CYCLE ADDRESS DATA BANK] BUDGET [--out FILE]'
@@ -160,7 +174,19 @@ ended '--out of a memory that is refused' 1 0 "$start $none" "the memory isn't 6
 three none 4 "0001 0000 0000 01FF 0000 8003 00 00 30 0 $none"
 complaint "the memory isn't written: $work/no/file: No such file or directory"
 told '--out into no folder' 2 "$work/lines" "$work/line" run "$work/small" $start 4 --out "$work/no/file"
+three 5 2 "0000 0000 0000 01FF 0000 8001 00 00 30 0 $none"
+echo "glavorint: refused with 5: the opcode held, or just fetched, isn't listed" >>"$work/line"
+told '--out into no folder, of a run that is refused' 2 "$work/lines" "$work/line" run "$work/unlisted" $start 4 --out "$work/no/file"
 unfit '--out to what is no file' "the memory isn't written: /dev/null isn't a file" run "$work/small" $start 4 --out /dev/null
+
+for n in 1 2 3 4 5; do
+  "$root/glavorint" run "$work/small" $start 14 --out "$work/left$n" 2>"$work/err" | :
+  cmp -s "$work/expected" "$work/left$n" || fail '--out with a reader who leaves: not the memory expected'
+  [ ! -s "$work/err" ] || fail "--out with a reader who leaves: $(cat "$work/err")"
+  passed=$((passed + 1))
+done
+full 'a run to a full device' run "$work/small" $start 14 --out "$work/full"
+cmp -s "$work/expected" "$work/full" || fail '--out with a full device: not the memory expected'
 
 # ---- going on inside an instruction
 
@@ -200,6 +226,13 @@ told 'a trace above the budget' 1 "$work/nothing" "$work/lines" trace "$work/sma
 three 1 0 "$start $none"
 echo "glavorint: refused with 1: the memory isn't 65,536 bytes" >>"$work/lines"
 told 'a trace of a short memory' 1 "$work/nothing" "$work/lines" trace "$work/short" $start 4
+{
+  echo "glavorint: the memory isn't written: $work/no/file: No such file or directory"
+  printf 'refusal none\ncycles 4\nrecord %s\n' "0001 0000 0000 01FF 0000 8003 00 00 30 0 $none"
+} >"$work/lines"
+told 'a trace with --out into no folder' 2 "$work/paper" "$work/lines" trace "$work/small" $start 4 --out "$work/no/file"
+full 'a trace to a full device' trace "$work/small" $start 4 --out "$work/cut"
+[ ! -e "$work/cut" ] || fail '--out of a trace that was cut short: a file is made'
 # BRA to itself: O, P, I, over and over
 awk 'BEGIN {
   print "bus\t1"
@@ -225,8 +258,10 @@ passed=$((passed + 2))
 # ---- step
 
 input=crates/byhand/stdin
-told 'a session' 0 crates/byhand/stdout "$work/nothing" step $start
+told 'a session with a byte that is refused' 1 crates/byhand/stdout "$work/nothing" step $start
 input=$work/typed
+awk '{ printf "%s\r\n", $0 }' crates/byhand/stdin >"$work/typed"
+told 'lines that end by CR and LF' 1 crates/byhand/stdout "$work/nothing" step $start
 printf 'quit\n' >"$work/typed"
 printf '1\tO\tR\t008000\ncycles 0\nrecord %s\n' "$start $none" >"$work/lines"
 told 'quit' 0 "$work/lines" "$work/nothing" step $start
@@ -238,6 +273,13 @@ told 'a last line without its end' 0 "$work/lines" "$work/nothing" step $start
 printf 'recording of nine\n' >"$work/typed"
 printf '1\tO\tR\t008000\n? two hex digits, record or quit\ncycles 0\nrecord %s\n' "$start $none" >"$work/lines"
 told 'a long line' 0 "$work/lines" "$work/nothing" step $start
+input=$work
+printf '1\tO\tR\t008000\n' >"$work/lines"
+complaint 'standard input: Is a directory'
+told 'a folder for input' 2 "$work/lines" "$work/line" step $start
+input=$work/typed
+full 'a session to a full device' step $start
+full 'a refused session to a full device' step $odd
 printf 'refusal 4\nrecord %s\n' "$odd $none" >"$work/lines"
 complaint "refused with 4: the record isn't well formed"
 told 'a session refused with 4' 1 "$work/lines" "$work/line" step $odd
@@ -247,6 +289,11 @@ told 'a session refused with 6' 1 "$work/lines" "$work/line" step $start 1 18 02
 unfit 'a word of a session' "X: 'x' isn't 1 to 4 hex digits (refusal 4)" step 0 x 0 1FF 0 8000 0 0 30 0
 unfit 'a session of nine words' 'usage: step A X Y S D PC PBR DBR P E [HELD OPCODE CYCLE ADDRESS DATA BANK]' step 0 0 0 0 0 0 0 0 0
 input=
+
+# ---- the day
+
+told 'the day' 0 crates/farmyard/stdout "$work/nothing"
+full 'the day to a full device'
 
 # ---- replay and help
 
@@ -259,6 +306,8 @@ echo "refused: cannot open $work/none" >"$work/lines"
 echo "$work/none: No such file or directory" >"$work/line"
 told 'no such list' 2 "$work/lines" "$work/line" replay "$work/none"
 unfit 'replay of nothing' 'usage: replay FILE' replay
+echo '0 lines: 0 agree, 0 differ, 0 bad' >"$work/lines"
+told 'an empty list' 0 "$work/lines" "$work/nothing" replay "$work/nothing"
 "$root/glavorint" help >"$work/help"
 told 'help' 0 "$work/help" "$work/nothing" --help
 for n in 1 2 3 4 5 6 7; do

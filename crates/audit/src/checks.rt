@@ -2,6 +2,7 @@
 ghost use Prim.Native.Nat.{_<_};
 use crate::meter::put_day;
 use crate::rom::put_rom;
+use dairy::say::Check;
 use dairy::say::say_form;
 use dairy::say::say_verdict;
 use dairy::yard::get;
@@ -31,14 +32,13 @@ fn by_the_table(pulses: u64, idle: u64) -> u64 {
     of_samples(pulses, idle) + 6 * 127 + 73
 }
 
-pub fn check_cycles(cycles: u64, pulses: u64, idle: u64) -> bool {
+pub fn check_cycles(cycles: u64, pulses: u64, idle: u64) -> Check {
     let table = by_the_table(pulses, idle);
-    say_form(
+    let told = say_form(
         b"  day   cycles # = by the table of instructions #",
         &[cycles, table],
     );
-    say_verdict(cycles == table);
-    cycles == table
+    say_verdict(told, cycles == table)
 }
 
 // The direct page's ten bytes, and 24 at the head of each of the log's two pages.
@@ -60,11 +60,10 @@ fn count_strange(mem: &[u8; 65536], old: &[u8; 65536]) -> u64 {
     n
 }
 
-pub fn check_elsewhere(mem: &[u8; 65536]) -> bool {
+pub fn check_elsewhere(mem: &[u8; 65536]) -> Check {
     let mut old = [0u8; 65536];
     lay(&mut old);
     let n = count_strange(mem, &old);
-    say_form(b"  day   bytes changed outside record and log #", &[n]);
-    say_verdict(n == 0);
-    n == 0
+    let told = say_form(b"  day   bytes changed outside record and log #", &[n]);
+    say_verdict(told, n == 0)
 }

@@ -1,11 +1,11 @@
 // How a run ended: its lines, the memory where it is asked for, the status. The run is a number, as crates/pails has it.
 use crate::save::save;
-use gate::say::complain;
 use gate::say::end;
 use gate::say::say;
 use gate::say::say_number;
 use gate::say::say_reason;
 use gate::say::say_record;
+use gate::say::untold;
 use pails::ran::cycles;
 use pails::ran::refusal;
 use std::num::wrapping_add_usize;
@@ -23,17 +23,6 @@ fn tell(fd: i32, number: u8, done: u32, rec: &[u8; 32]) -> bool {
     both(both(first, second), say_record(fd, rec))
 }
 
-// Whoever closed the pipe knows; any other failure is said.
-fn untold() {
-    if os::errno() == libc::EPIPE {
-        end(1);
-    } else {
-        complain(b"");
-        os::fail(b"standard output");
-        end(2);
-    }
-}
-
 // The memory, where it is asked for and a run over it was begun.
 fn is_kept(mem: &[u8; 65536], number: u8, count: usize, out: usize) -> bool {
     if both(out < count, either(number == 0, number > 3)) {
@@ -43,11 +32,11 @@ fn is_kept(mem: &[u8; 65536], number: u8, count: usize, out: usize) -> bool {
 }
 
 // After the lines.
-fn finish(number: u8, mem: &[u8; 65536], count: usize, out: usize) {
+fn finish(number: u8, kept: bool) {
     if number != 0 {
         say_reason(number);
     }
-    if !is_kept(mem, number, count, out) {
+    if !kept {
         end(2);
     } else if number == 0 {
         end(0);
@@ -56,16 +45,17 @@ fn finish(number: u8, mem: &[u8; 65536], count: usize, out: usize) {
     }
 }
 
-// The end of a run of `count` arguments, with `--out` at `out`.
+// The end of a run of `count` arguments, with `--out` at `out`. The memory comes first: whoever reads the lines may leave after one, which ends the program.
 pub fn report(fd: i32, ran: u64, rec: &[u8; 32], mem: &[u8; 65536], count: usize, out: usize) {
     let number = refusal(ran);
     if number == 255 {
         untold();
         return;
     }
+    let kept = is_kept(mem, number, count, out);
     if !tell(fd, number, cycles(ran), rec) {
         untold();
         return;
     }
-    finish(number, mem, count, out);
+    finish(number, kept);
 }

@@ -1,6 +1,7 @@
 // Lines are written by a form, whose marks stand for values in their order: `#` a number, `@` one that ends five places on, `%` two hex digits,
-// `^` four. Every other byte is itself.
+// `^` four. Every other byte is itself. What is said answers whether it could be written.
 use libc::STDOUT_FILENO;
+use words::both;
 use words::either;
 
 const ROOM: usize = 256;
@@ -11,14 +12,14 @@ struct Pen {
     next: usize,
 }
 
-pub fn say(text: &[u8]) {
-    io::write_all(STDOUT_FILENO, text);
+pub fn say(text: &[u8]) -> bool {
+    io::write_all(STDOUT_FILENO, text)
 }
 
 // The first bytes of a text.
-pub fn say_first(text: &[u8], n: usize) {
+pub fn say_first(text: &[u8], n: usize) -> bool {
     let k = io::count((n % 65536) as isize, text);
-    say(&text[..k]);
+    say(&text[..k])
 }
 
 fn put(line: &mut [u8; 256], at: usize, b: u8) -> usize {
@@ -124,20 +125,34 @@ fn put_form(line: &mut [u8; 256], form: &[u8], values: &[u64]) -> usize {
     pen.at
 }
 
-fn say_line(line: &[u8; 256], n: usize) {
-    say_first(line, n);
+fn say_line(line: &[u8; 256], n: usize) -> bool {
+    say_first(line, n)
 }
 
-pub fn say_form(form: &[u8], values: &[u64]) {
+pub fn say_form(form: &[u8], values: &[u64]) -> bool {
     let mut line = [0u8; 256];
     let n = put_form(&mut line, form, values);
-    say_line(&line, n);
+    say_line(&line, n)
 }
 
-pub fn say_verdict(agrees: bool) {
+fn say_agrees(agrees: bool) -> bool {
     if agrees {
-        say(b": agrees\n");
+        say(b": agrees\n")
     } else {
-        say(b": DIFFERS\n");
+        say(b": DIFFERS\n")
+    }
+}
+
+// What a check came to, and whether all of it could be written.
+pub struct Check {
+    pub agrees: bool,
+    pub told: bool,
+}
+
+// The end of a check's line, whose begin was written or not.
+pub fn say_verdict(told: bool, agrees: bool) -> Check {
+    Check {
+        agrees: agrees,
+        told: both(told, say_agrees(agrees)),
     }
 }

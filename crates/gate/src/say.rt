@@ -18,6 +18,27 @@ pub fn complain(text: &[u8]) {
     say(STDERR_FILENO, text);
 }
 
+// The system's reason for what couldn't be done.
+fn fail(what: &[u8]) {
+    complain(b"");
+    os::fail(what);
+    end(2);
+}
+
+// The end of a program whose output couldn't be written. Whoever closed the pipe knows; any other failure is said.
+pub fn untold() {
+    if os::errno() == libc::EPIPE {
+        end(1);
+    } else {
+        fail(b"standard output");
+    }
+}
+
+// The end of one whose input couldn't be read.
+pub fn unread() {
+    fail(b"standard input");
+}
+
 // Characters as they are typed, the unprintable ones as a question mark, so that a complaint stays one line.
 fn shown(b: u8) -> u8 {
     match b {

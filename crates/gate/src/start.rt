@@ -69,7 +69,7 @@ fn refuse_budget(text: &[u8]) -> u64
     quote(text);
     say(
         STDERR_FILENO,
-        b"isn't a decimal number up to 4,294,967,295 (refusal 2)\n",
+        b"isn't a decimal number of 1 to 10 digits, at most 1,000,000 (refusal 2)\n",
     );
     4_294_967_296
 }

@@ -4,10 +4,10 @@ use Rattle.dairy.proofs.slip.say_deliveries.Statement.{statement}
 use Rattle.dairy.proofs.slip.say_deliveries.Tie as tie
 
 abbrev Inv-loop : tie.InvT-loop
-Inv-loop mem i₀ i = Unit {0}
+Inv-loop mem told₀ i₀ told i = Unit {0}
 
 abbrev μ-loop : tie.MeasureT-loop
-μ-loop mem i₀ i = 6 - i
+μ-loop mem told₀ i₀ told i = 6 - i
 
 loop-holds : tie.Need-loop-holds Inv-loop μ-loop
 loop-holds c = tt
@@ -20,6 +20,9 @@ entry-at-requires c κs = search needs
 
 say-delivery-requires : tie.Need-say-delivery-requires Inv-loop μ-loop
 say-delivery-requires c κs = search needs
+
+both-requires : tie.Need-both-requires Inv-loop μ-loop
+both-requires c κs = search needs
 
 add-i : tie.Need-add-i Inv-loop μ-loop
 add-i c = search needs
@@ -43,6 +46,7 @@ say-deliveries-spec =
     place-requires
     entry-at-requires
     say-delivery-requires
+    both-requires
     add-i
     loop-less
     loop-again

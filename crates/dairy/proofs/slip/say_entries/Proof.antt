@@ -4,10 +4,10 @@ use Rattle.dairy.proofs.slip.say_entries.Statement.{statement}
 use Rattle.dairy.proofs.slip.say_entries.Tie as tie
 
 abbrev Inv-loop : tie.InvT-loop
-Inv-loop mem i₀ i = Unit {0}
+Inv-loop mem told₀ i₀ told i = Unit {0}
 
 abbrev μ-loop : tie.MeasureT-loop
-μ-loop mem i₀ i = 6 - i
+μ-loop mem told₀ i₀ told i = 6 - i
 
 loop-holds : tie.Need-loop-holds Inv-loop μ-loop
 loop-holds c = tt
@@ -17,6 +17,9 @@ place-requires c κs = search needs
 
 say-entry-requires : tie.Need-say-entry-requires Inv-loop μ-loop
 say-entry-requires c κs = search needs
+
+both-requires : tie.Need-both-requires Inv-loop μ-loop
+both-requires c κs = search needs
 
 add-i : tie.Need-add-i Inv-loop μ-loop
 add-i c = search needs
@@ -39,6 +42,7 @@ say-entries-spec =
     loop-holds
     place-requires
     say-entry-requires
+    both-requires
     add-i
     loop-less
     loop-again

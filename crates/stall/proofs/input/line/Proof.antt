@@ -14,14 +14,11 @@ loop-holds c = tt
 get-requires : tie.Need-get-requires Inv-loop μ-loop
 get-requires c κs = search needs
 
-returns : tie.Need-returns Inv-loop μ-loop
-returns c = tt
-
 ended-requires : tie.Need-ended-requires Inv-loop μ-loop
 ended-requires c κs = search needs
 
-returns-2 : tie.Need-returns-2 Inv-loop μ-loop
-returns-2 c = tt
+returns : tie.Need-returns Inv-loop μ-loop
+returns c = tt
 
 cast-put : tie.Need-cast-put Inv-loop μ-loop
 cast-put c = search needs
@@ -41,8 +38,8 @@ loop-less c = search needs
 loop-again : tie.Need-loop-again Inv-loop μ-loop
 loop-again c = tt
 
-returns-3 : tie.Need-returns-3 Inv-loop μ-loop
-returns-3 c = tt
+returns-2 : tie.Need-returns-2 Inv-loop μ-loop
+returns-2 c = tt
 
 pub line-spec : {M : Type 1} → statement M
 line-spec =
@@ -52,13 +49,12 @@ line-spec =
     μ-loop
     loop-holds
     get-requires
-    returns
     ended-requires
-    returns-2
+    returns
     cast-put
     put-requires
     more-requires
     sub-turns
     loop-less
     loop-again
-    returns-3)
+    returns-2)
