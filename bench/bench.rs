@@ -1,5 +1,6 @@
 //! Cycles a second of the proved library and of the crate w65c816 0.1.17, in one process, in turn, on the same memory and program; the ends are
 //! compared first. What is printed is ours over the crate's: best of the rounds, and median.
+use std::process::exit;
 use std::time::Instant;
 use w65c816::{AddressType, Signals, System, CPU};
 
@@ -168,8 +169,22 @@ fn ratio(row: &Row, budget: u32, rounds: usize, how: &mut dyn FnMut(&mut [u8; 40
     (theirs[0] as f64 / ours[0] as f64, theirs[rounds / 2] as f64 / ours[rounds / 2] as f64)
 }
 
+/// ROUNDS, or 60.
+fn rounds() -> usize {
+    let Some(word) = std::env::args().nth(1) else {
+        return 60;
+    };
+    match word.parse() {
+        Ok(n) if n > 0 => n,
+        _ => {
+            eprintln!("bench: ROUNDS is a number from 1 on");
+            exit(2)
+        }
+    }
+}
+
 fn main() {
-    let rounds = std::env::args().nth(1).and_then(|a| a.parse().ok()).unwrap_or(60);
+    let rounds = rounds();
     let mut text = vec![0u8; 6 + 22 * BUDGET as usize];
     let mut traced = |r: &mut [u8; 40], mem: &mut Vec<u8>, budget: u32| {
         unsafe { glavorint_trace(r.as_mut_ptr(), 32, mem.as_mut_ptr(), mem.len(), text.as_mut_ptr(), text.len(), 0, budget) };

@@ -443,11 +443,31 @@ fn limits() {
     }
 }
 
+/// A number of the command line, or another where it has none.
+fn number(args: &[String], place: usize, other: u64) -> u64 {
+    let Some(word) = args.get(place) else {
+        return other;
+    };
+    word.parse().unwrap_or_else(|_| {
+        eprintln!("judge: '{word}' isn't a number from 0 on, of 64 bits");
+        exit(2)
+    })
+}
+
+/// Whether the last word is there, which can only be `short`.
+fn is_short(args: &[String]) -> bool {
+    let rest = args.get(4..).unwrap_or(&[]);
+    if !rest.is_empty() && rest != ["short"] {
+        eprintln!("usage: judge [SEED CASES PROGRAMS [short]]");
+        exit(2)
+    }
+    !rest.is_empty()
+}
+
 fn main() {
     let args: Vec<String> = std::env::args().collect();
-    let number = |i: usize, other: u64| args.get(i).and_then(|a| a.parse().ok()).unwrap_or(other);
-    let (seed, cases, programs) = (number(1, 1), number(2, 200) as usize, number(3, 2000));
-    let short = args.get(4).map_or(false, |a| a == "short");
+    let (seed, cases, programs) = (number(&args, 1, 1), number(&args, 2, 200) as usize, number(&args, 3, 2000));
+    let short = is_short(&args);
     let (cpu, mut r, mut t) = (reset(), Random(seed.wrapping_mul(0x9E37_79B9_7F4A_7C15) | 1), Tally::default());
     limits();
     opcodes(&mut t, &cpu, &mut r, cases);
