@@ -1,13 +1,29 @@
 //! Cycles a second of the proved library and of the crate w65c816 0.1.17, in one process, in turn, on the same memory and program; the ends are
 //! compared first. What is printed is ours over the crate's: best of the rounds, and median.
+use std::process::exit;
 use std::time::Instant;
 use w65c816::{AddressType, Signals, System, CPU};
 
 extern "C" {
-    fn glavorint_run(record: *mut u8, len: usize, memory: *mut u8, size: usize, budget: u32) -> u64;
-    #[rustfmt::skip]
-    fn glavorint_trace(record: *mut u8, len: usize, memory: *mut u8, size: usize, text: *mut u8, room: usize, before: u32, budget: u32) -> u64;
-    fn glavorint_session_cycles(session: *mut u8, len: usize, memory: *mut u8, size: usize, count: u32) -> u64;
+    fn glavorint_run(record: *mut u8, len: usize, memory: *mut u8, size: usize, budget: u32)
+        -> u64;
+    fn glavorint_trace(
+        record: *mut u8,
+        len: usize,
+        memory: *mut u8,
+        size: usize,
+        text: *mut u8,
+        room: usize,
+        before: u32,
+        budget: u32,
+    ) -> u64;
+    fn glavorint_session_cycles(
+        session: *mut u8,
+        len: usize,
+        memory: *mut u8,
+        size: usize,
+        count: u32,
+    ) -> u64;
 }
 
 const BUDGET: u32 = 200_000;
@@ -44,7 +60,11 @@ struct Row {
 }
 
 fn immediate(v: u8, wide: bool) -> Vec<u8> {
-    if wide { vec![v, 0] } else { vec![v] }
+    if wide {
+        vec![v, 0]
+    } else {
+        vec![v]
+    }
 }
 
 /// Loads, stores, sums and a loop; `decimal` leaves D set.
@@ -60,17 +80,28 @@ fn mixed(wide: bool, decimal: bool) -> Vec<u8> {
 }
 
 fn rows() -> Vec<Row> {
-    let branches = vec![0xE8, 0xD0, 0x00, 0xF0, 0x02, 0x90, 0x00, 0xB0, 0x01, 0xEA, 0x10, 0x00, 0x80, 0xF2];
+    let branches = vec![
+        0xE8, 0xD0, 0x00, 0xF0, 0x02, 0x90, 0x00, 0xB0, 0x01, 0xEA, 0x10, 0x00, 0x80, 0xF2,
+    ];
     // MVN from 1000 to 2000, each time with A 0FFF again
-    let moves = vec![0xA9, 0xFF, 0x0F, 0xA2, 0x00, 0x10, 0xA0, 0x00, 0x20, 0x54, 0x00, 0x00, 0x4C, 0x00, 0x80];
+    let moves = vec![
+        0xA9, 0xFF, 0x0F, 0xA2, 0x00, 0x10, 0xA0, 0x00, 0x20, 0x54, 0x00, 0x00, 0x4C, 0x00, 0x80,
+    ];
+    let row = |name, code, p, e| Row {
+        name,
+        code,
+        p,
+        e,
+        a: 0,
+    };
     vec![
-        Row { name: "mixed, 8 bits", code: mixed(false, false), p: 0x34, e: false, a: 0 },
-        Row { name: "mixed, 16 bits", code: mixed(true, false), p: 0x04, e: false, a: 0 },
-        Row { name: "mixed, emulation", code: mixed(false, false), p: 0x34, e: true, a: 0 },
-        Row { name: "decimal, 8 bits", code: mixed(false, true), p: 0x34, e: false, a: 0 },
-        Row { name: "decimal, 16 bits", code: mixed(true, true), p: 0x04, e: false, a: 0 },
-        Row { name: "branches", code: branches, p: 0x34, e: false, a: 0 },
-        Row { name: "block move", code: moves, p: 0x04, e: false, a: 0 },
+        row("mixed, 8 bits", mixed(false, false), 0x34, false),
+        row("mixed, 16 bits", mixed(true, false), 0x04, false),
+        row("mixed, emulation", mixed(false, false), 0x34, true),
+        row("decimal, 8 bits", mixed(false, true), 0x34, false),
+        row("decimal, 16 bits", mixed(true, true), 0x04, false),
+        row("branches", branches, 0x34, false),
+        row("block move", moves, 0x04, false),
     ]
 }
 
@@ -92,7 +123,11 @@ fn record(row: &Row) -> [u8; 40] {
 }
 
 fn crate_start(row: &Row) -> (CPU, Bus) {
-    let mut bus = Bus { mem: memory(row), reset: true, vector: false };
+    let mut bus = Bus {
+        mem: memory(row),
+        reset: true,
+        vector: false,
+    };
     let mut c = CPU::new();
     c.cycle(&mut bus);
     bus.reset = false;
@@ -126,7 +161,17 @@ fn by_crate(row: &Row, budget: u32) -> Seen {
         c.cycle(&mut bus);
     }
     let ns = t.elapsed().as_nanos() as u64;
-    let r = [c.c(), c.x(), c.y(), c.s(), c.d(), c.pc(), c.pbr() as u16, c.dbr() as u16, c.p() as u16];
+    let r = [
+        c.c(),
+        c.x(),
+        c.y(),
+        c.s(),
+        c.d(),
+        c.pc(),
+        c.pbr() as u16,
+        c.dbr() as u16,
+        c.p() as u16,
+    ];
     (ns, r, bus.mem)
 }
 
@@ -141,7 +186,11 @@ fn by_ours(row: &Row, budget: u32, how: &mut dyn FnMut(&mut [u8; 40], &mut Vec<u
     let ns = t.elapsed().as_nanos() as u64;
     let w = |i| word(&r, i);
     let b = |i: usize| r[i] as u16;
-    (ns, [w(4), w(6), w(8), w(10), w(12), w(14), b(16), b(17), b(18)], mem)
+    (
+        ns,
+        [w(4), w(6), w(8), w(10), w(12), w(14), b(16), b(17), b(18)],
+        mem,
+    )
 }
 
 fn plain(r: &mut [u8; 40], mem: &mut Vec<u8>, budget: u32) {
@@ -153,10 +202,21 @@ fn stepped(r: &mut [u8; 40], mem: &mut Vec<u8>, budget: u32) {
 }
 
 /// Ours over the crate's, best and median.
-fn ratio(row: &Row, budget: u32, rounds: usize, how: &mut dyn FnMut(&mut [u8; 40], &mut Vec<u8>, u32)) -> (f64, f64) {
+fn ratio(
+    row: &Row,
+    budget: u32,
+    rounds: usize,
+    how: &mut dyn FnMut(&mut [u8; 40], &mut Vec<u8>, u32),
+) -> (f64, f64) {
     for n in [1, 2, 7, 100, 12_345, budget] {
         let (a, b) = (by_crate(row, n), by_ours(row, n, how));
-        assert!((a.1, &a.2) == (b.1, &b.2), "{}: {n} cycles: {:x?} and {:x?}", row.name, a.1, b.1);
+        assert!(
+            (a.1, &a.2) == (b.1, &b.2),
+            "{}: {n} cycles: {:x?} and {:x?}",
+            row.name,
+            a.1,
+            b.1
+        );
     }
     let (mut theirs, mut ours) = (vec![], vec![]);
     for _ in 0..rounds {
@@ -165,22 +225,56 @@ fn ratio(row: &Row, budget: u32, rounds: usize, how: &mut dyn FnMut(&mut [u8; 40
     }
     theirs.sort();
     ours.sort();
-    (theirs[0] as f64 / ours[0] as f64, theirs[rounds / 2] as f64 / ours[rounds / 2] as f64)
+    (
+        theirs[0] as f64 / ours[0] as f64,
+        theirs[rounds / 2] as f64 / ours[rounds / 2] as f64,
+    )
+}
+
+/// ROUNDS, or 60.
+fn rounds() -> usize {
+    let Some(word) = std::env::args().nth(1) else {
+        return 60;
+    };
+    match word.parse() {
+        Ok(n) if n > 0 => n,
+        _ => {
+            eprintln!("bench: ROUNDS is a number from 1 on");
+            exit(2)
+        }
+    }
 }
 
 fn main() {
-    let rounds = std::env::args().nth(1).and_then(|a| a.parse().ok()).unwrap_or(60);
+    let rounds = rounds();
     let mut text = vec![0u8; 6 + 22 * BUDGET as usize];
     let mut traced = |r: &mut [u8; 40], mem: &mut Vec<u8>, budget: u32| {
-        unsafe { glavorint_trace(r.as_mut_ptr(), 32, mem.as_mut_ptr(), mem.len(), text.as_mut_ptr(), text.len(), 0, budget) };
+        unsafe {
+            glavorint_trace(
+                r.as_mut_ptr(),
+                32,
+                mem.as_mut_ptr(),
+                mem.len(),
+                text.as_mut_ptr(),
+                text.len(),
+                0,
+                budget,
+            )
+        };
     };
-    println!("{:18} {:>12} {:>12} {:>12}   ours over the crate's, best (median)", "", "run", "traced run", "session");
+    println!(
+        "{:18} {:>12} {:>12} {:>12}   ours over the crate's, best (median)",
+        "", "run", "traced run", "session"
+    );
     for row in rows() {
         let (a, b, c) = (
             ratio(&row, BUDGET, rounds, &mut plain),
             ratio(&row, BUDGET, rounds, &mut traced),
             ratio(&row, BUDGET, rounds, &mut stepped),
         );
-        println!("{:18} {:5.2} ({:4.2}) {:5.2} ({:4.2}) {:5.2} ({:4.2})", row.name, a.0, a.1, b.0, b.1, c.0, c.1);
+        println!(
+            "{:18} {:5.2} ({:4.2}) {:5.2} ({:4.2}) {:5.2} ({:4.2})",
+            row.name, a.0, a.1, b.0, b.1, c.0, c.1
+        );
     }
 }

@@ -3,9 +3,10 @@
 # cycles a second ours does.
 set -eu
 cd "$(dirname "$0")/.."
-source=${1:?usage: bench/bench.sh SOURCE [ROUNDS]}
+[ $# -eq 1 ] || [ $# -eq 2 ] || { echo "usage: bench/bench.sh SOURCE [ROUNDS]" >&2; exit 2; }
+source=$1
 shift
-# Said before anything is built: what is missing.
+# Said before anything is built: what is missing, and what is no number.
 command -v rustc >/dev/null || { echo "bench: there is no rustc" >&2; exit 2; }
 rustc -vV | grep -q '^host: x86_64' || { echo "bench: the library is for x86-64, and rustc here is for $(rustc -vV | sed -n 's/^host: //p')" >&2; exit 2; }
 [ -f "$source/lib.rs" ] || { echo "bench: there is no $source/lib.rs, the crate's source" >&2; exit 2; }

@@ -9,19 +9,30 @@ use w65c816::{AddressType, Signals, System, CPU};
 extern "C" {
     fn glavorint_request(record: *const u8, len: usize) -> u64;
     fn glavorint_answer(record: *mut u8, len: usize, byte: u8) -> u8;
-    fn glavorint_run(record: *mut u8, len: usize, memory: *mut u8, size: usize, budget: u32) -> u64;
-    #[rustfmt::skip]
-    fn glavorint_trace(record: *mut u8, len: usize, memory: *mut u8, size: usize, text: *mut u8, room: usize, before: u32, budget: u32) -> u64;
+    fn glavorint_run(record: *mut u8, len: usize, memory: *mut u8, size: usize, budget: u32)
+        -> u64;
+    fn glavorint_trace(
+        record: *mut u8,
+        len: usize,
+        memory: *mut u8,
+        size: usize,
+        text: *mut u8,
+        room: usize,
+        before: u32,
+        budget: u32,
+    ) -> u64;
 }
 
 /// Document 01's list.
 const TAKEN: [u8; 117] = [
-    0x69, 0x6D, 0x65, 0xE9, 0xED, 0xE5, 0xC9, 0xCD, 0xC5, 0x29, 0x2D, 0x25, 0x09, 0x0D, 0x05, 0x49, 0x4D, 0x45, 0x89, 0x2C, 0x24, 0xA9, 0xAD,
-    0xA5, 0xA2, 0xAE, 0xA6, 0xA0, 0xAC, 0xA4, 0xE0, 0xEC, 0xE4, 0xC0, 0xCC, 0xC4, 0x8D, 0x85, 0x8E, 0x86, 0x8C, 0x84, 0x9C, 0x64, 0x0A, 0x2A,
-    0x4A, 0x6A, 0x1A, 0x3A, 0x18, 0x38, 0x58, 0x78, 0xB8, 0xD8, 0xF8, 0xEA, 0xFB, 0xEB, 0xAA, 0xA8, 0xBA, 0x8A, 0x9A, 0x9B, 0x98, 0xBB, 0x5B,
-    0x1B, 0x7B, 0x3B, 0xE8, 0xC8, 0xCA, 0x88, 0xC2, 0xE2, 0x42, 0x54, 0x44, 0x10, 0x30, 0x50, 0x70, 0x90, 0xB0, 0xD0, 0xF0, 0x80, 0x82, 0x4C,
-    0x6C, 0x7C, 0x5C, 0xDC, 0x20, 0xFC, 0x22, 0x60, 0x6B, 0x48, 0xDA, 0x5A, 0x08, 0x8B, 0x0B, 0x4B, 0x68, 0xFA, 0x7A, 0x28, 0xAB, 0x2B, 0xF4,
-    0xD4, 0x62,
+    0x69, 0x6D, 0x65, 0xE9, 0xED, 0xE5, 0xC9, 0xCD, 0xC5, 0x29, 0x2D, 0x25, 0x09, 0x0D, 0x05, 0x49,
+    0x4D, 0x45, 0x89, 0x2C, 0x24, 0xA9, 0xAD, 0xA5, 0xA2, 0xAE, 0xA6, 0xA0, 0xAC, 0xA4, 0xE0, 0xEC,
+    0xE4, 0xC0, 0xCC, 0xC4, 0x8D, 0x85, 0x8E, 0x86, 0x8C, 0x84, 0x9C, 0x64, 0x0A, 0x2A, 0x4A, 0x6A,
+    0x1A, 0x3A, 0x18, 0x38, 0x58, 0x78, 0xB8, 0xD8, 0xF8, 0xEA, 0xFB, 0xEB, 0xAA, 0xA8, 0xBA, 0x8A,
+    0x9A, 0x9B, 0x98, 0xBB, 0x5B, 0x1B, 0x7B, 0x3B, 0xE8, 0xC8, 0xCA, 0x88, 0xC2, 0xE2, 0x42, 0x54,
+    0x44, 0x10, 0x30, 0x50, 0x70, 0x90, 0xB0, 0xD0, 0xF0, 0x80, 0x82, 0x4C, 0x6C, 0x7C, 0x5C, 0xDC,
+    0x20, 0xFC, 0x22, 0x60, 0x6B, 0x48, 0xDA, 0x5A, 0x08, 0x8B, 0x0B, 0x4B, 0x68, 0xFA, 0x7A, 0x28,
+    0xAB, 0x2B, 0xF4, 0xD4, 0x62,
 ];
 
 /// What the programmer sees; P with M and X as they are.
@@ -38,6 +49,20 @@ struct State {
     p: u8,
     e: bool,
 }
+
+/// Native, 8 bits, at 8000.
+const PLAIN: State = State {
+    a: 0,
+    x: 0,
+    y: 0,
+    s: 0x1FF,
+    d: 0,
+    pc: 0x8000,
+    pbr: 0,
+    dbr: 0,
+    p: 0x30,
+    e: false,
+};
 
 /// One access: kind, direction, address, byte.
 #[derive(Clone, Copy, PartialEq, Debug)]
@@ -92,13 +117,41 @@ impl Ours {
     fn request(&self) -> Result<Access, u8> {
         let q = unsafe { glavorint_request(self.bytes.as_ptr(), 32) };
         match (q >> 48) as u8 {
-            0 => Ok(Access { kind: (q >> 32) as u8, write: q >> 40 & 1 == 1, addr: q as u32 & 0xFF_FFFF, byte: (q >> 24) as u8 }),
+            0 => Ok(Access {
+                kind: (q >> 32) as u8,
+                write: q >> 40 & 1 == 1,
+                addr: q as u32 & 0xFF_FFFF,
+                byte: (q >> 24) as u8,
+            }),
             n => Err(n),
         }
     }
 
     fn answer(&mut self, byte: u8) -> u8 {
         unsafe { glavorint_answer(self.bytes.as_mut_ptr(), 32, byte) }
+    }
+
+    /// The refusal, and the cycles done.
+    fn run(&mut self, memory: &mut [u8], budget: u32) -> (u8, u32) {
+        let (record, mem) = (self.bytes.as_mut_ptr(), memory.as_mut_ptr());
+        let said = unsafe { glavorint_run(record, 32, mem, memory.len(), budget) };
+        ((said >> 32) as u8, said as u32)
+    }
+
+    /// The refusal, the cycles done, and the bytes of text written.
+    fn trace(&mut self, memory: &mut [u8], text: &mut [u8], budget: u32) -> (u8, usize, usize) {
+        let (record, mem, to) = (
+            self.bytes.as_mut_ptr(),
+            memory.as_mut_ptr(),
+            text.as_mut_ptr(),
+        );
+        let (size, room) = (memory.len(), text.len());
+        let said = unsafe { glavorint_trace(record, 32, mem, size, to, room, 0, budget) };
+        let (cycles, written) = (
+            said as usize & 0xFF_FFFF,
+            (said >> 24) as usize & 0xFFFF_FFFF,
+        );
+        ((said >> 56) as u8, cycles, written)
     }
 }
 
@@ -123,11 +176,21 @@ struct Wire {
 
 impl System for Wire {
     fn read(&mut self, addr: u32, t: AddressType, _: &Signals) -> u8 {
-        self.seen = Some(Access { kind: kind_of(t), write: false, addr, byte: self.byte });
+        self.seen = Some(Access {
+            kind: kind_of(t),
+            write: false,
+            addr,
+            byte: self.byte,
+        });
         self.byte
     }
     fn write(&mut self, addr: u32, byte: u8, t: AddressType, _: &Signals) {
-        self.seen = Some(Access { kind: kind_of(t), write: true, addr, byte });
+        self.seen = Some(Access {
+            kind: kind_of(t),
+            write: true,
+            addr,
+            byte,
+        });
     }
     fn res(&mut self) -> bool {
         self.reset
@@ -137,7 +200,11 @@ impl System for Wire {
 /// The crate reaches an instruction's start only by a reset; its last cycle is the vector's second byte.
 fn reset() -> CPU {
     let mut cpu = CPU::new();
-    let mut wire = Wire { byte: 0, seen: None, reset: true };
+    let mut wire = Wire {
+        byte: 0,
+        seen: None,
+        reset: true,
+    };
     cpu.cycle(&mut wire);
     wire.reset = false;
     while wire.seen.map_or(true, |a| a.addr != 0xFFFD) {
@@ -162,7 +229,18 @@ fn place(cpu: &CPU, s: &State) -> CPU {
 }
 
 fn seen_state(c: &CPU) -> State {
-    State { a: c.c(), x: c.x(), y: c.y(), s: c.s(), d: c.d(), pc: c.pc(), pbr: c.pbr(), dbr: c.dbr(), p: c.p(), e: c.signals().e() }
+    State {
+        a: c.c(),
+        x: c.x(),
+        y: c.y(),
+        s: c.s(),
+        d: c.d(),
+        pc: c.pc(),
+        pbr: c.pbr(),
+        dbr: c.dbr(),
+        p: c.p(),
+        e: c.signals().e(),
+    }
 }
 
 // ---- the listed differences: the crate's access, from ours
@@ -176,12 +254,27 @@ const RULES: [&str; 4] = [
 
 /// Which rule speaks of our access in this cycle of an instruction, and what the crate does instead.
 fn rule(op: u8, cycle: usize, q: Access, dbr: u8) -> Option<(usize, Option<Access>)> {
-    let next = Access { addr: q.addr & 0xFF_0000 | (q.addr + 1) & 0xFFFF, ..q };
+    let next = Access {
+        addr: q.addr & 0xFF_0000 | (q.addr + 1) & 0xFFFF,
+        ..q
+    };
     match (op, cycle) {
         (0x0A | 0x1A | 0x2A | 0x3A | 0x4A | 0x6A, 1) => Some((0, None)),
         (0x62, 3) => Some((1, Some(next))),
-        (0x8C | 0x8D | 0x8E | 0x9C, 4) if q.addr & 0xFFFF == 0 => Some((2, Some(Access { addr: (dbr as u32) << 16, ..q }))),
-        (_, 4) if q.kind == 2 && !q.write && q.addr == 0 && dbr == 0xFF => Some((3, Some(Access { addr: 0x100_0000, ..q }))),
+        (0x8C | 0x8D | 0x8E | 0x9C, 4) if q.addr & 0xFFFF == 0 => Some((
+            2,
+            Some(Access {
+                addr: (dbr as u32) << 16,
+                ..q
+            }),
+        )),
+        (_, 4) if q.kind == 2 && !q.write && q.addr == 0 && dbr == 0xFF => Some((
+            3,
+            Some(Access {
+                addr: 0x100_0000,
+                ..q
+            }),
+        )),
         _ => None,
     }
 }
@@ -194,18 +287,48 @@ struct Tally {
     hits: [u64; 4],
 }
 
-fn fail(what: &str, from: &dyn std::fmt::Debug, ours: &dyn std::fmt::Debug, theirs: &dyn std::fmt::Debug) -> ! {
+fn fail(
+    what: &str,
+    from: &dyn std::fmt::Debug,
+    ours: &dyn std::fmt::Debug,
+    theirs: &dyn std::fmt::Debug,
+) -> ! {
     println!("judge: {what}\n  from   {from:x?}\n  ours   {ours:x?}\n  crate  {theirs:x?}");
     exit(1)
 }
 
 /// Our access and the crate's, in this cycle of an instruction; what the crate reads elsewhere, `answer` gives it.
-fn same_access(t: &mut Tally, from: &State, op: u8, cycle: usize, dbr: u8, q: Access, theirs: Option<Access>, answer: &dyn Fn(u32) -> u8) {
-    let answered = |a: Access| if a.write { a } else { Access { byte: answer(a.addr), ..a } };
+fn same_access(
+    t: &mut Tally,
+    from: &State,
+    op: u8,
+    cycle: usize,
+    dbr: u8,
+    q: Access,
+    theirs: Option<Access>,
+    answer: &dyn Fn(u32) -> u8,
+) {
+    let answered = |a: Access| {
+        if a.write {
+            a
+        } else {
+            Access {
+                byte: answer(a.addr),
+                ..a
+            }
+        }
+    };
     match rule(op, cycle, q, dbr) {
         Some((n, expected)) if expected.map(answered) == theirs => t.hits[n] += 1,
         _ if theirs == Some(q) => {}
         _ => fail("the requests differ", &(from, op, cycle), &q, &theirs),
+    }
+}
+
+fn same_state(what: &str, from: &dyn std::fmt::Debug, ours: &Ours, theirs: &CPU) {
+    let (a, b) = (ours.state(), seen_state(theirs));
+    if a != b {
+        fail(what, from, &a, &b);
     }
 }
 
@@ -220,8 +343,14 @@ fn instruction(t: &mut Tally, cpu: &CPU, from: &State, byte: &mut dyn FnMut(usiz
             op = b;
         }
         let before = ours.state();
-        let q = ours.request().unwrap_or_else(|n| fail("refused", from, &n, &cycle));
-        let mut wire = Wire { byte: b, seen: None, reset: false };
+        let q = ours
+            .request()
+            .unwrap_or_else(|n| fail("refused", from, &n, &cycle));
+        let mut wire = Wire {
+            byte: b,
+            seen: None,
+            reset: false,
+        };
         theirs.cycle(&mut wire);
         let q = if q.write { q } else { Access { byte: b, ..q } };
         same_access(t, from, op, cycle, before.dbr, q, wire.seen, &|_| b);
@@ -229,9 +358,7 @@ fn instruction(t: &mut Tally, cpu: &CPU, from: &State, byte: &mut dyn FnMut(usiz
         if n != 0 {
             fail("refused", &(from, op), &n, &cycle);
         }
-        if ours.state() != seen_state(&theirs) {
-            fail("the records differ", &(from, op, cycle), &ours.state(), &seen_state(&theirs));
-        }
+        same_state("the records differ", &(from, op, cycle), &ours, &theirs);
         t.cycles += 1;
         if ours.ended() {
             return;
@@ -259,7 +386,9 @@ impl Random {
         }
     }
     fn word(&mut self) -> u16 {
-        let edges = [0x0000, 0x0001, 0x00FF, 0x0100, 0x01FF, 0x0200, 0x7FFF, 0x8000, 0xFFFD, 0xFFFE, 0xFFFF];
+        let edges = [
+            0x0000, 0x0001, 0x00FF, 0x0100, 0x01FF, 0x0200, 0x7FFF, 0x8000, 0xFFFD, 0xFFFE, 0xFFFF,
+        ];
         match self.next() % 3 {
             0 => edges[self.next() as usize % edges.len()],
             _ => u16::from_le_bytes([self.byte(), self.byte()]),
@@ -278,7 +407,13 @@ impl Random {
     /// A well-formed start: mode 0 is emulation, the others native by their widths.
     fn start(&mut self, mode: u8) -> State {
         let e = mode == 0;
-        let (m, x) = [(true, true), (true, true), (true, false), (false, true), (false, false)][mode as usize];
+        let (m, x) = [
+            (true, true),
+            (true, true),
+            (true, false),
+            (false, true),
+            (false, false),
+        ][mode as usize];
         let narrow = |v: u16| if x { v & 0xFF } else { v };
         let (sx, sy, s) = (self.word(), self.word(), self.word());
         State {
@@ -310,16 +445,17 @@ fn opcodes(t: &mut Tally, cpu: &CPU, r: &mut Random, cases: usize) {
 
 /// All operands of 8-bit ADC, SBC and CMP, and of the shifts, with both carries and both D.
 fn exhaustive(t: &mut Tally, cpu: &CPU) {
-    let from = |a: u16, carry: u8, decimal: u8| State { a, x: 0, y: 0, s: 0x1FF, d: 0, pc: 0x8000, pbr: 0, dbr: 0, p: 0x30 | decimal << 3 | carry, e: false };
     for (carry, decimal) in [(0, 0), (1, 0), (0, 1), (1, 1)] {
         for a in 0..256 {
+            let p = 0x30 | decimal << 3 | carry;
+            let from = State { a, p, ..PLAIN };
             for b in 0..=255 {
                 for op in [0x69, 0xE9, 0xC9] {
-                    instruction(t, cpu, &from(a, carry, decimal), &mut |k| if k == 0 { op } else { b });
+                    instruction(t, cpu, &from, &mut |k| [op, b][k.min(1)]);
                 }
             }
             for op in [0x0A, 0x2A, 0x4A, 0x6A, 0x1A, 0x3A] {
-                instruction(t, cpu, &from(a, carry, decimal), &mut |k| if k == 0 { op } else { 0 });
+                instruction(t, cpu, &from, &mut |k| [op, 0][k.min(1)]);
             }
         }
     }
@@ -336,11 +472,21 @@ struct Bank {
 impl System for Bank {
     fn read(&mut self, addr: u32, t: AddressType, _: &Signals) -> u8 {
         let byte = self.memory[addr as usize & 0xFFFF];
-        self.seen = Some(Access { kind: kind_of(t), write: false, addr, byte });
+        self.seen = Some(Access {
+            kind: kind_of(t),
+            write: false,
+            addr,
+            byte,
+        });
         byte
     }
     fn write(&mut self, addr: u32, byte: u8, t: AddressType, _: &Signals) {
-        self.seen = Some(Access { kind: kind_of(t), write: true, addr, byte });
+        self.seen = Some(Access {
+            kind: kind_of(t),
+            write: true,
+            addr,
+            byte,
+        });
         if addr < 0x1_0000 {
             self.memory[addr as usize] = byte;
         }
@@ -358,98 +504,168 @@ fn read_line(line: &str) -> Access {
     }
 }
 
+/// The crate over a memory of its own, and where in an instruction it is: opcode, cycle, and DBR before the cycle.
+struct Theirs {
+    cpu: CPU,
+    bank: Bank,
+    op: u8,
+    cycle: usize,
+    dbr: u8,
+}
+
+impl Theirs {
+    fn turn(&mut self) -> Option<Access> {
+        self.bank.seen = None;
+        self.cpu.cycle(&mut self.bank);
+        self.bank.seen
+    }
+
+    /// A cycle beside our line of it, which has that number.
+    fn follow(&mut self, t: &mut Tally, from: &State, number: usize, line: &str) {
+        let q = read_line(line);
+        if line.split('\t').next() != Some(&number.to_string()) {
+            fail("a line's number", from, &line, &number);
+        }
+        if self.cpu.tcu() == 0xFF || q.kind == 0 {
+            (self.op, self.cycle) = (q.byte, 0);
+        }
+        let seen = self.turn();
+        let answer = |a: u32| self.bank.memory[a as usize & 0xFFFF];
+        same_access(t, from, self.op, self.cycle, self.dbr, q, seen, &answer);
+        self.dbr = self.cpu.dbr();
+        self.cycle += 1;
+        t.lines += 1;
+    }
+
+    /// Where we stopped, the crate leaves the list, or bank 0.
+    fn leave(&mut self, t: &mut Tally, from: &State, refusal: u8) {
+        let wide_store = matches!(self.op, 0x8C | 0x8D | 0x8E | 0x9C) && self.cycle == 4;
+        match (refusal, self.turn()) {
+            (0, _) => {}
+            (5, Some(a)) if a.kind == 0 && !TAKEN.contains(&a.byte) => {}
+            (7, Some(a)) if a.addr > 0xFFFF => {}
+            (7, Some(_)) if wide_store => t.hits[2] += 1,
+            (n, a) => {
+                let at = (from, self.op, self.cycle);
+                fail("a refusal that the crate doesn't show", &at, &n, &a)
+            }
+        }
+    }
+}
+
 /// A random program: listed opcodes and random bytes, from a random start in bank 0. Our trace, line by line, beside the crate's cycles.
 fn program(t: &mut Tally, cpu: &CPU, r: &mut Random, budget: u32) {
     let mut memory: Vec<u8> = (0..65536).map(|_| r.code()).collect();
     let mode = (r.next() % 5) as u8;
-    let from = State { pbr: 0, dbr: 0, ..r.start(mode) };
-    let (mut ours, mut theirs) = (Ours::at(&from), place(cpu, &from));
-    let mut bank = Bank { memory: memory.clone(), seen: None };
-    let mut text = vec![0u8; 6 + 22 * budget as usize];
-    let said = unsafe {
-        glavorint_trace(ours.bytes.as_mut_ptr(), 32, memory.as_mut_ptr(), memory.len(), text.as_mut_ptr(), text.len(), 0, budget)
+    let mut from = r.start(mode);
+    (from.pbr, from.dbr) = (0, 0);
+    let (mut ours, cpu) = (Ours::at(&from), place(cpu, &from));
+    let bank = Bank {
+        memory: memory.clone(),
+        seen: None,
     };
-    let (cycles, written, refusal) = (said as usize & 0xFF_FFFF, (said >> 24) as usize & 0xFFFF_FFFF, (said >> 56) as u8);
+    let mut theirs = Theirs {
+        cpu,
+        bank,
+        op: 0,
+        cycle: 0,
+        dbr: 0,
+    };
+    let mut text = vec![0u8; 6 + 22 * budget as usize];
+    let (refusal, cycles, written) = ours.trace(&mut memory, &mut text, budget);
     let text = std::str::from_utf8(&text[..written]).unwrap();
-    let (mut op, mut cycle, mut dbr) = (0, 0, from.dbr);
     for (i, line) in text.lines().skip(1).enumerate() {
-        let q = read_line(line);
-        if line.split('\t').next() != Some(&(i + 1).to_string()) {
-            fail("a line's number", &from, &line, &(i + 1));
-        }
-        bank.seen = None;
-        if theirs.tcu() == 0xFF || q.kind == 0 {
-            (op, cycle) = (q.byte, 0);
-        }
-        theirs.cycle(&mut bank);
-        let (seen, memory) = (bank.seen, &bank.memory);
-        same_access(t, &from, op, cycle, dbr, q, seen, &|a| memory[a as usize & 0xFFFF]);
-        dbr = theirs.dbr();
-        cycle += 1;
-        t.lines += 1;
+        theirs.follow(t, &from, i + 1, line);
     }
     if text.lines().count() != cycles + 1 {
         fail("the count of lines", &from, &cycles, &text.lines().count());
     }
-    if ours.state() != seen_state(&theirs) || memory != bank.memory {
-        fail("the ends differ", &from, &ours.state(), &seen_state(&theirs));
+    same_state("the ends differ", &from, &ours, &theirs.cpu);
+    if memory != theirs.bank.memory {
+        fail("the memories differ", &from, &(), &());
     }
-    // where we stopped, the crate leaves the list, or bank 0
-    bank.seen = None;
-    theirs.cycle(&mut bank);
-    match (refusal, bank.seen) {
-        (0, _) => {}
-        (5, Some(a)) if a.kind == 0 && !TAKEN.contains(&a.byte) => {}
-        (7, Some(a)) if a.addr > 0xFFFF => {}
-        (7, Some(_)) if matches!(op, 0x8C | 0x8D | 0x8E | 0x9C) && cycle == 4 => t.hits[2] += 1,
-        (n, a) => fail("a refusal that the crate doesn't show", &(from, op, cycle), &n, &a),
+    theirs.leave(t, &from, refusal);
+}
+
+fn expect(name: &str, got: (u8, u32), want: (u8, u32)) {
+    if got != want {
+        fail(name, &(), &got, &want)
     }
 }
 
-/// The limits of document 01's list.
+/// The limits of document 01's list: memory, budget and record.
 fn limits() {
-    let from = State { a: 0, x: 0, y: 0, s: 0x1FF, d: 0, pc: 0x8000, pbr: 0, dbr: 0, p: 0x30, e: false };
-    let run = |s: &State, size: usize, budget: u32| {
-        let (mut ours, mut memory) = (Ours::at(s), vec![0xEAu8; size]);
-        let said = unsafe { glavorint_run(ours.bytes.as_mut_ptr(), 32, memory.as_mut_ptr(), size, budget) };
-        ((said >> 32) as u8, said as u32)
-    };
-    let expect = |name: &str, got: (u8, u32), want: (u8, u32)| {
-        if got != want {
-            fail(name, &(), &got, &want)
-        }
-    };
-    expect("memory of 65,535", run(&from, 65535, 1), (1, 0));
-    expect("memory of 65,537", run(&from, 65537, 1), (1, 0));
-    expect("budget 1,000,001", run(&from, 65536, 1_000_001), (2, 0));
-    expect("budget 1,000,000", run(&from, 65536, 1_000_000), (0, 1_000_000));
-    expect("S outside page 1", run(&State { e: true, s: 0x200, ..from }, 65536, 1), (4, 0));
-    expect("X above FF", run(&State { x: 0x100, ..from }, 65536, 1), (4, 0));
-    expect("bank 1", run(&State { pbr: 1, ..from }, 65536, 1), (7, 0));
+    let run = |s: &State, size, budget| Ours::at(s).run(&mut vec![0xEA; size], budget);
+    let most = 1_000_000;
+    expect("memory of 65,535", run(&PLAIN, 65535, 1), (1, 0));
+    expect("memory of 65,537", run(&PLAIN, 65537, 1), (1, 0));
+    expect("budget 1,000,001", run(&PLAIN, 65536, most + 1), (2, 0));
+    expect("budget 1,000,000", run(&PLAIN, 65536, most), (0, most));
+    let (e, s) = (true, 0x200);
+    let outside = State { e, s, ..PLAIN };
+    let wide = State { x: 0x100, ..PLAIN };
+    let bank = State { pbr: 1, ..PLAIN };
+    expect("S outside page 1", run(&outside, 65536, 1), (4, 0));
+    expect("X above FF", run(&wide, 65536, 1), (4, 0));
+    expect("bank 1", run(&bank, 65536, 1), (7, 0));
+}
+
+/// The room of a text, the cycles of an opcode, and the opcodes.
+fn more_limits() {
     for (room, want) in [(94, (0, 4)), (93, (3, 0))] {
-        let (mut ours, mut memory, mut text) = (Ours::at(&from), vec![0xEAu8; 65536], vec![0u8; room]);
-        let said = unsafe { glavorint_trace(ours.bytes.as_mut_ptr(), 32, memory.as_mut_ptr(), 65536, text.as_mut_ptr(), room, 0, 4) };
-        expect("text room", ((said >> 56) as u8, said as u32 & 0xFF_FFFF), want);
+        let (mut memory, mut text) = (vec![0xEA; 65536], vec![0; room]);
+        let (refusal, cycles, _) = Ours::at(&PLAIN).trace(&mut memory, &mut text, 4);
+        expect("text room", (refusal, cycles as u32), want);
     }
     for (cycle, want) in [(0, 6), (1, 0), (2, 6), (255, 6)] {
-        let mut ours = Ours::at(&from);
+        let mut ours = Ours::at(&PLAIN);
         ours.bytes[1..4].copy_from_slice(&[1, 0xEA, cycle]);
-        expect("a cycle of NOP", (ours.request().err().unwrap_or(0), 0), (want, 0));
+        let refusal = ours.request().err().unwrap_or(0);
+        expect("a cycle of NOP", (refusal, 0), (want, 0));
     }
     for op in 0..=255u8 {
-        let mut ours = Ours::at(&from);
-        let n = ours.answer(op);
-        expect("a fetched byte", (n, 0), (if TAKEN.contains(&op) { 0 } else { 5 }, 0));
+        let refusal = Ours::at(&PLAIN).answer(op);
+        let want = if TAKEN.contains(&op) { 0 } else { 5 };
+        expect("a fetched byte", (refusal, 0), (want, 0));
     }
+}
+
+/// A number of the command line, or another where it has none.
+fn number(args: &[String], place: usize, other: u64) -> u64 {
+    let Some(word) = args.get(place) else {
+        return other;
+    };
+    word.parse().unwrap_or_else(|_| {
+        eprintln!("judge: '{word}' isn't a number from 0 on, of 64 bits");
+        exit(2)
+    })
+}
+
+/// Whether the last word is there, which can only be `short`.
+fn is_short(args: &[String]) -> bool {
+    let rest = args.get(4..).unwrap_or(&[]);
+    if !rest.is_empty() && rest != ["short"] {
+        eprintln!("usage: judge [SEED CASES PROGRAMS [short]]");
+        exit(2)
+    }
+    !rest.is_empty()
 }
 
 fn main() {
     let args: Vec<String> = std::env::args().collect();
-    let number = |i: usize, other: u64| args.get(i).and_then(|a| a.parse().ok()).unwrap_or(other);
-    let (seed, cases, programs) = (number(1, 1), number(2, 200) as usize, number(3, 2000));
-    let short = args.get(4).map_or(false, |a| a == "short");
-    let (cpu, mut r, mut t) = (reset(), Random(seed.wrapping_mul(0x9E37_79B9_7F4A_7C15) | 1), Tally::default());
+    let (seed, cases, programs) = (
+        number(&args, 1, 1),
+        number(&args, 2, 200) as usize,
+        number(&args, 3, 2000),
+    );
+    let short = is_short(&args);
+    let (cpu, mut r, mut t) = (
+        reset(),
+        Random(seed.wrapping_mul(0x9E37_79B9_7F4A_7C15) | 1),
+        Tally::default(),
+    );
     limits();
+    more_limits();
     opcodes(&mut t, &cpu, &mut r, cases);
     if !short {
         exhaustive(&mut t, &cpu);

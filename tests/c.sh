@@ -5,6 +5,10 @@ cd "$(dirname "$0")/.."
 for tool in cc ar nm; do
     command -v $tool >/dev/null || { echo "c: not run: there is no $tool"; exit 0; }
 done
+# A compiler may be there without what it links.
+trial=$(mktemp)
+trap 'rm -f "$trial"' EXIT
+echo 'int main(void) { return 0; }' | cc -x c -o "$trial" - >/dev/null 2>&1 || { echo "c: not run: cc can't link"; exit 0; }
 case $(cc -dumpmachine) in
 x86_64*) ;;
 *)

@@ -150,6 +150,7 @@ unfit 'run alone' "$usage" run
 unfit 'a word too few' "$usage" run "$work/small" $start
 unfit 'a word too many' "$usage" run "$work/small" $start 0 4
 unfit 'no FILE after --out' "$usage" run "$work/small" $start 4 --out
+unfit '--out=FILE' '--out and its FILE are two words: --out FILE' run "$work/small" $start 4 --out="$work/after"
 unfit 'no such subcommand' "'walk' is no subcommand: run, trace, step, replay or help" walk
 
 # ---- --out
@@ -178,6 +179,13 @@ three 5 2 "0000 0000 0000 01FF 0000 8001 00 00 30 0 $none"
 echo "glavorint: refused with 5: the opcode held, or just fetched, isn't listed" >>"$work/line"
 told '--out into no folder, of a run that is refused' 2 "$work/lines" "$work/line" run "$work/unlisted" $start 4 --out "$work/no/file"
 unfit '--out to what is no file' "the memory isn't written: /dev/null isn't a file" run "$work/small" $start 4 --out /dev/null
+cp "$work/small" "$work/locked"
+chmod 444 "$work/locked"
+if [ -w "$work/locked" ]; then
+  echo 'command: not run: --out to a file that may not be written, since root may write every file'
+else
+  unfit '--out to a file that may not be written' "the memory isn't written: $work/locked: Permission denied" run "$work/small" $start 4 --out "$work/locked"
+fi
 
 for n in 1 2 3 4 5; do
   "$root/glavorint" run "$work/small" $start 14 --out "$work/left$n" 2>"$work/err" | :
@@ -302,17 +310,94 @@ cases=$(grep -vc '^#' "$list")
 echo "$cases lines: $cases agree, 0 differ, 0 bad" >"$work/lines"
 told 'a list that agrees' 0 "$work/lines" "$work/nothing" replay "$list"
 told 'a spoiled list' 1 tests/replay/spoiled.out "$work/nothing" replay tests/replay/spoiled.txt
-echo "refused: cannot open $work/none" >"$work/lines"
-echo "$work/none: No such file or directory" >"$work/line"
-told 'no such list' 2 "$work/lines" "$work/line" replay "$work/none"
+unfit 'no such list' "the list can't be read: $work/none: No such file or directory" replay "$work/none"
+unfit 'a folder for a list' "the list can't be read: $work: Is a directory" replay "$work"
+input=$list
+told 'a list on standard input' 0 "$work/lines" "$work/nothing" replay /dev/stdin
+input=
 unfit 'replay of nothing' 'usage: replay FILE' replay
 echo '0 lines: 0 agree, 0 differ, 0 bad' >"$work/lines"
 told 'an empty list' 0 "$work/lines" "$work/nothing" replay "$work/nothing"
 "$root/glavorint" help >"$work/help"
 told 'help' 0 "$work/help" "$work/nothing" --help
+for words in 'run --help' 'trace -h' 'step --help' 'replay -h'; do
+  told "$words" 0 "$work/help" "$work/nothing" $words
+done
+crooked=$(grep ' glavorint' "$work/help" | grep -v '^.\{54\}  [a-z]')
+[ -z "$crooked" ] || fail "help: the second column is not straight: $crooked"
 for n in 1 2 3 4 5 6 7; do
   grep -q "^  $n  " "$work/help" || fail "help has no line for refusal $n"
 done
+
+# ---- streams that are closed or full
+
+complaint 'standard output is closed'
+for words in "run $work/small $start 4" "trace $work/small $start 4" "step $start" "replay $list" 'help' ''; do
+  "$root/glavorint" $words >&- 2>"$work/err"
+  got=$?
+  [ "$got" = 2 ] || fail "closed output: $words: status $got"
+  cmp -s "$work/line" "$work/err" || fail "closed output: $words: $(cat "$work/err")"
+  passed=$((passed + 1))
+done
+three none 0 "$start $none"
+"$root/glavorint" run "$work/small" $start 0 <&- >"$work/out" 2>&- || fail 'closed input and standard error: refused'
+cmp -s "$work/lines" "$work/out" || fail 'closed input and standard error: not the output expected'
+{
+  sleep 1
+  "$root/glavorint" replay "$list" 2>"$work/err"
+  echo $? >"$work/status"
+} | :
+[ "$(cat "$work/status")" = 1 ] || fail "replay into a closed pipe: status $(cat "$work/status")"
+[ ! -s "$work/err" ] || fail "replay into a closed pipe: $(cat "$work/err")"
+passed=$((passed + 2))
+if [ -c /dev/full ]; then
+  complaint 'standard output: No space left on device'
+  "$root/glavorint" replay "$list" >/dev/full 2>"$work/err"
+  [ $? = 2 ] || fail 'replay to a full disk: not status 2'
+  cmp -s "$work/line" "$work/err" || fail "replay to a full disk: $(cat "$work/err")"
+  passed=$((passed + 1))
+fi
+
+# ---- signals
+
+mkfifo "$work/feed" "$work/seen"
+
+# stopped NAME LAST COMMAND WORDS..: TERM to the command alone, once it has written a line, ends what it runs too: that never gets as far as LAST. Both
+# pipes are held open until then, and the output is read to its end, which comes when nobody has it any more.
+stopped() {
+  name=$1
+  last=$2
+  shift 2
+  "$@" <"$work/feed" >"$work/seen" 2>"$work/err" 7<&- 8<&- &
+  command=$!
+  read -r line <&8
+  kill -s TERM "$command"
+  wait "$command" 2>/dev/null
+  got=$?
+  exec 9<"$work/seen" 7<&- 8<&-
+  cat <&9 >"$work/rest"
+  exec 9<&-
+  [ "$got" = 143 ] || fail "$name: status $got, not 143"
+  if grep -q "$last" "$work/rest"; then fail "$name: what it runs goes on"; fi
+  passed=$((passed + 1))
+}
+
+exec 7<>"$work/feed" 8<>"$work/seen"
+stopped 'TERM to a trace' '^1000000' "$root/glavorint" trace "$work/loop" $start 1000000 --out "$work/late"
+[ ! -e "$work/late" ] || fail 'TERM to a trace: a file is made'
+exec 7<>"$work/feed" 8<>"$work/seen"
+stopped 'TERM to a session' '^cycles' "$root/glavorint" step $start
+exec 7<>"$work/feed" 8<>"$work/seen"
+cat tests/replay/spoiled.txt >&7
+stopped 'TERM to a replay' ' agree, ' "$root/glavorint" replay "$work/feed"
+
+# ---- no room
+
+complaint "no folder can be made in $work/none"
+TMPDIR=$work/none "$root/glavorint" run "$work/small" $start 4 >"$work/out" 2>"$work/err"
+[ $? = 2 ] || fail 'no folder for the status: not status 2'
+cmp -s "$work/line" "$work/err" || fail "no folder for the status: $(cat "$work/err")"
+passed=$((passed + 1))
 
 # ---- from elsewhere
 
@@ -337,8 +422,8 @@ cp "$root/glavorint" "$new/glavorint"
 # its programs are scripts, which no emulator runs
 printf '#!/bin/sh\nprogram=$1\nshift\nexec "%s/target/bin/$program" "$@"\n' "$new" >"$new/tools/start"
 chmod +x "$new/tools/start"
-for tool in sh dirname find head tail mkdir cat mv chmod; do
-  ln -s "$(command -v $tool)" "$new/path/$tool"
+for tool in sh dirname find head tail mkdir cat mv chmod mktemp mkfifo rm sleep setsid; do
+  ! command -v $tool >/dev/null || ln -s "$(command -v $tool)" "$new/path/$tool"
 done
 
 # first NAME STATUS OUT ERR: the new repository's command on `run`, with no rt but the one in its bin/.
@@ -353,6 +438,12 @@ first() {
 
 complaint "the Rattle toolchain is missing: put its 'rt' on the PATH"
 first 'no toolchain' 2 "$work/nothing" "$work/line"
+printf '#!/bin/sh\n' >"$new/bin/rt"
+chmod +x "$new/bin/rt"
+: >"$new/target"
+complaint "$new/target/glavorint can't be written: what is proved is kept there"
+first 'a target that is no folder' 2 "$work/nothing" "$work/line"
+rm "$new/target"
 cat >"$new/bin/rt" <<'END'
 #!/bin/sh
 echo 'rt: words proved (unchanged since it was last proved)'
@@ -360,8 +451,7 @@ echo 'rt: flags proved (5 s)'
 echo 'rt: tanker NOT PROVED (3 s)'
 exit 1
 END
-chmod +x "$new/bin/rt"
-begun='glavorint: proving tanker and what it stands on, which is done once'
+begun='glavorint: proving tanker and what it stands on; the first time takes many minutes'
 log=$new/target/glavorint/tanker.log
 {
   printf '%s\n' "$begun" 'proved flags (5 s)'
@@ -369,8 +459,20 @@ log=$new/target/glavorint/tanker.log
   printf '%s\n' 'not proved' "glavorint: tanker isn't proved: $log has what rt says"
 } >"$work/said"
 first 'a proof that fails' 2 "$work/nothing" "$work/said"
+if command -v setsid >/dev/null; then
+  # the prover is not rt itself, but what rt runs
+  cat >"$new/bin/rt" <<'END'
+#!/bin/sh
+sh -c 'echo begun; sleep 3; echo went on' >"$SEEN"
+END
+  exec 7<>"$work/feed" 8<>"$work/seen"
+  stopped 'TERM to a proof' 'went on' env PATH="$new/bin:$new/path" SEEN="$work/seen" "$new/glavorint" run
+else
+  echo 'command: not run: TERM to a proof, since there is no setsid'
+fi
 cat >"$new/bin/rt" <<'END'
 #!/bin/sh
+sleep "${PAUSE:-0}"
 echo 'rt: flags proved (5 s)'
 echo 'rt: tanker proved (31 s)'
 mkdir -p target/bin
@@ -381,6 +483,14 @@ echo ran >"$work/ran"
 printf '%s\n' "$begun" 'proved flags (5 s)' 'proved tanker (31 s)' >"$work/said"
 first 'a first use' 1 "$work/ran" "$work/said"
 first 'a second use' 1 "$work/ran" "$work/nothing"
+rm -r "$new/target"
+PAUSE=1 PATH="$new/bin:$new/path" "$new/glavorint" run >"$work/beside" 2>&1 &
+beside=$!
+PAUSE=1
+export PAUSE
+first 'two first uses at once' 1 "$work/ran" "$work/said"
+wait "$beside"
+cat "$work/said" "$work/ran" | cmp -s - "$work/beside" || fail "two first uses at once: $(cat "$work/beside")"
 rm "$new/bin/rt"
 first 'a second use without the toolchain' 1 "$work/ran" "$work/nothing"
 printf '#!/bin/sh\nkill -9 $$\n' >"$new/target/bin/tanker"

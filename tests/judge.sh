@@ -10,6 +10,11 @@ fi
 for tool in rustc cc ar nm; do
     command -v $tool >/dev/null || { echo "judge: not run: there is no $tool"; exit 0; }
 done
+# A compiler may be there without what it links.
+trial=$(mktemp)
+trap 'rm -f "$trial"' EXIT
+echo 'int main(void) { return 0; }' | cc -x c -o "$trial" - >/dev/null 2>&1 || { echo "judge: not run: cc can't link"; exit 0; }
+echo 'fn main() {}' | rustc -o "$trial" - >/dev/null 2>&1 || { echo "judge: not run: rustc can't link"; exit 0; }
 if ! rustc -vV | grep -q '^host: x86_64'; then
     echo "judge: not run: the library is for x86-64, and rustc here is for $(rustc -vV | sed -n 's/^host: //p')"
 elif [ ! -f "$source/lib.rs" ]; then

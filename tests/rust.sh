@@ -5,6 +5,12 @@ cd "$(dirname "$0")/.."
 for tool in cargo rustc cc ar nm; do
     command -v $tool >/dev/null || { echo "rust: not run: there is no $tool"; exit 0; }
 done
+cargo --version >/dev/null 2>&1 || { echo "rust: not run: cargo fails"; exit 0; }
+# A compiler may be there without what it links.
+trial=$(mktemp)
+trap 'rm -f "$trial"' EXIT
+echo 'int main(void) { return 0; }' | cc -x c -o "$trial" - >/dev/null 2>&1 || { echo "rust: not run: cc can't link"; exit 0; }
+echo 'fn main() {}' | rustc -o "$trial" - >/dev/null 2>&1 || { echo "rust: not run: rustc can't link"; exit 0; }
 host=$(rustc -vV | sed -n 's/^host: //p')
 case $host in
 x86_64*) ;;
