@@ -370,7 +370,8 @@ stopped() {
   shift 2
   "$@" <"$work/feed" >"$work/seen" 2>"$work/err" 7<&- 8<&- &
   command=$!
-  read -r line <&8
+  timeout 300 head -n 1 <&8 >"$work/headline"
+  [ -s "$work/headline" ] || fail "$name: no line in five minutes"
   kill -s TERM "$command"
   wait "$command" 2>/dev/null
   got=$?
