@@ -4,27 +4,10 @@ use std::process::exit;
 use std::time::Instant;
 use w65c816::{AddressType, Signals, System, CPU};
 
-extern "C" {
-    fn glavorint_run(record: *mut u8, len: usize, memory: *mut u8, size: usize, budget: u32)
-        -> u64;
-    fn glavorint_trace(
-        record: *mut u8,
-        len: usize,
-        memory: *mut u8,
-        size: usize,
-        text: *mut u8,
-        room: usize,
-        before: u32,
-        budget: u32,
-    ) -> u64;
-    fn glavorint_session_cycles(
-        session: *mut u8,
-        len: usize,
-        memory: *mut u8,
-        size: usize,
-        count: u32,
-    ) -> u64;
-}
+/// The library's functions, as the Rust crate declares them.
+#[path = "../rust/src/ffi.rs"]
+#[allow(dead_code)]
+mod ffi;
 
 const BUDGET: u32 = 200_000;
 
@@ -194,11 +177,11 @@ fn by_ours(row: &Row, budget: u32, how: &mut dyn FnMut(&mut [u8; 40], &mut Vec<u
 }
 
 fn plain(r: &mut [u8; 40], mem: &mut Vec<u8>, budget: u32) {
-    unsafe { glavorint_run(r.as_mut_ptr(), 32, mem.as_mut_ptr(), mem.len(), budget) };
+    ffi::run(&mut r[..32], mem, budget);
 }
 
 fn stepped(r: &mut [u8; 40], mem: &mut Vec<u8>, budget: u32) {
-    unsafe { glavorint_session_cycles(r.as_mut_ptr(), 40, mem.as_mut_ptr(), mem.len(), budget) };
+    ffi::session_cycles(r, mem, budget);
 }
 
 /// Ours over the crate's, best and median.
@@ -249,18 +232,7 @@ fn main() {
     let rounds = rounds();
     let mut text = vec![0u8; 6 + 22 * BUDGET as usize];
     let mut traced = |r: &mut [u8; 40], mem: &mut Vec<u8>, budget: u32| {
-        unsafe {
-            glavorint_trace(
-                r.as_mut_ptr(),
-                32,
-                mem.as_mut_ptr(),
-                mem.len(),
-                text.as_mut_ptr(),
-                text.len(),
-                0,
-                budget,
-            )
-        };
+        ffi::trace(&mut r[..32], mem, &mut text, 0, budget);
     };
     println!(
         "{:18} {:>12} {:>12} {:>12}   ours over the crate's, best (median)",

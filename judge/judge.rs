@@ -6,22 +6,10 @@
 use std::process::exit;
 use w65c816::{AddressType, Signals, System, CPU};
 
-extern "C" {
-    fn glavorint_request(record: *const u8, len: usize) -> u64;
-    fn glavorint_answer(record: *mut u8, len: usize, byte: u8) -> u8;
-    fn glavorint_run(record: *mut u8, len: usize, memory: *mut u8, size: usize, budget: u32)
-        -> u64;
-    fn glavorint_trace(
-        record: *mut u8,
-        len: usize,
-        memory: *mut u8,
-        size: usize,
-        text: *mut u8,
-        room: usize,
-        before: u32,
-        budget: u32,
-    ) -> u64;
-}
+/// The library's functions, as the Rust crate declares them.
+#[path = "../rust/src/ffi.rs"]
+#[allow(dead_code)]
+mod ffi;
 
 /// Document 01's list.
 const TAKEN: [u8; 117] = [
@@ -115,7 +103,7 @@ impl Ours {
     }
 
     fn request(&self) -> Result<Access, u8> {
-        let q = unsafe { glavorint_request(self.bytes.as_ptr(), 32) };
+        let q = ffi::request(&self.bytes);
         match (q >> 48) as u8 {
             0 => Ok(Access {
                 kind: (q >> 32) as u8,
@@ -128,25 +116,18 @@ impl Ours {
     }
 
     fn answer(&mut self, byte: u8) -> u8 {
-        unsafe { glavorint_answer(self.bytes.as_mut_ptr(), 32, byte) }
+        ffi::answer(&mut self.bytes, byte)
     }
 
     /// The refusal, and the cycles done.
     fn run(&mut self, memory: &mut [u8], budget: u32) -> (u8, u32) {
-        let (record, mem) = (self.bytes.as_mut_ptr(), memory.as_mut_ptr());
-        let said = unsafe { glavorint_run(record, 32, mem, memory.len(), budget) };
+        let said = ffi::run(&mut self.bytes, memory, budget);
         ((said >> 32) as u8, said as u32)
     }
 
     /// The refusal, the cycles done, and the bytes of text written.
     fn trace(&mut self, memory: &mut [u8], text: &mut [u8], budget: u32) -> (u8, usize, usize) {
-        let (record, mem, to) = (
-            self.bytes.as_mut_ptr(),
-            memory.as_mut_ptr(),
-            text.as_mut_ptr(),
-        );
-        let (size, room) = (memory.len(), text.len());
-        let said = unsafe { glavorint_trace(record, 32, mem, size, to, room, 0, budget) };
+        let said = ffi::trace(&mut self.bytes, memory, text, 0, budget);
         let (cycles, written) = (
             said as usize & 0xFF_FFFF,
             (said >> 24) as usize & 0xFFFF_FFFF,
