@@ -57,12 +57,16 @@ turnOf d =
 unfoldable pub tailText : (p b : ℕ) → List ℕ
 tailText p b = hex2 (p / 256) ++ (hex2 (p % 256) ++ ((9 ∷ []) ++ (hex2 b ++ (10 ∷ []))))
 
+-- a line of a dial, marks and an end
+abbrev pub rowOf : (front width last marks : ℕ) → (end : List ℕ) → List ℕ
+rowOf f w l m e = bytesOf w f ++ ((l ∷ []) ++ (bytesOf 7 m ++ e))
+
 unfoldable pub nearText : (front width last marks p b : ℕ) → List ℕ
-nearText f w l m p b = bytesOf w f ++ ((l ∷ []) ++ (bytesOf 7 m ++ tailText p b))
+nearText f w l m p b = rowOf f w l m (tailText p b)
 
 -- the same with its end as a word
 abbrev pub rowText : (front width last marks end : ℕ) → List ℕ
-rowText f w l m e = bytesOf w f ++ ((l ∷ []) ++ (bytesOf 7 m ++ bytesOf 8 e))
+rowText f w l m e = rowOf f w l m (bytesOf 8 e)
 
 -- kind and direction with the tabs around them, and the two zeros of bank 0
 unfoldable pub marksOf : Kind → Bool → ℕ
