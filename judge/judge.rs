@@ -148,6 +148,15 @@ fn kind_of(t: AddressType) -> u8 {
     }
 }
 
+fn seen(write: bool, addr: u32, byte: u8, t: AddressType) -> Access {
+    Access {
+        kind: kind_of(t),
+        write,
+        addr,
+        byte,
+    }
+}
+
 /// A bus that answers one byte, whatever is asked, and keeps what was asked.
 struct Wire {
     byte: u8,
@@ -157,21 +166,11 @@ struct Wire {
 
 impl System for Wire {
     fn read(&mut self, addr: u32, t: AddressType, _: &Signals) -> u8 {
-        self.seen = Some(Access {
-            kind: kind_of(t),
-            write: false,
-            addr,
-            byte: self.byte,
-        });
+        self.seen = Some(seen(false, addr, self.byte, t));
         self.byte
     }
     fn write(&mut self, addr: u32, byte: u8, t: AddressType, _: &Signals) {
-        self.seen = Some(Access {
-            kind: kind_of(t),
-            write: true,
-            addr,
-            byte,
-        });
+        self.seen = Some(seen(true, addr, byte, t));
     }
     fn res(&mut self) -> bool {
         self.reset
@@ -453,21 +452,11 @@ struct Bank {
 impl System for Bank {
     fn read(&mut self, addr: u32, t: AddressType, _: &Signals) -> u8 {
         let byte = self.memory[addr as usize & 0xFFFF];
-        self.seen = Some(Access {
-            kind: kind_of(t),
-            write: false,
-            addr,
-            byte,
-        });
+        self.seen = Some(seen(false, addr, byte, t));
         byte
     }
     fn write(&mut self, addr: u32, byte: u8, t: AddressType, _: &Signals) {
-        self.seen = Some(Access {
-            kind: kind_of(t),
-            write: true,
-            addr,
-            byte,
-        });
+        self.seen = Some(seen(true, addr, byte, t));
         if addr < 0x1_0000 {
             self.memory[addr as usize] = byte;
         }
