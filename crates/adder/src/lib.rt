@@ -1,4 +1,6 @@
 // One byte of ADC and of SBC, binary and decimal: the crate's `adc_bcd` and the body of its `sbc`.
+#![tactic(auto)]
+
 ghost use Rattle.std.specs.Prelude.{◌≡◌, ◌<◌};
 ghost use Rattle.adder.specs.Adder.{plain, half, overflow, add_six, add_sixty, take_six, take_sixty, adc_binary, adc_decimal, sbc_decimal, adc_of, sbc_of};
 

@@ -1,4 +1,6 @@
 // The status register, by the crate's names. A method takes the record and hands it back.
+#![tactic(auto)]
+
 ghost use Rattle.std.specs.Prelude.{◌≡◌, ◌≤◌, ◌<◌};
 ghost use Rattle.flags.specs.Flags.{bit_of, weigh, byte_of, set_mask, set_byte, set_nvzc, set_nz, set_id, settled, swap_ce};
 
