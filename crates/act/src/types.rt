@@ -1,5 +1,5 @@
 // Where a cycle leads, once the record and the byte are known.
-#[derive(Drop)]
+#[derive(Clone, Copy)]
 pub enum Way {
     On(u8), // the instruction's next cycle; each with its program bank
     End(u8), // the next instruction's start

@@ -6,7 +6,7 @@ ghost use Rattle.adder.specs.Adder.{plain, half, overflow, add_six, add_sixty, t
 
 use words::{both, either, one_if};
 
-#[derive(Drop)]
+#[derive(Clone, Copy)]
 pub struct Sum {
     pub byte: u8,
     pub carry: bool,

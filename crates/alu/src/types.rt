@@ -2,7 +2,7 @@
 use flags::Flags;
 
 // On a byte of a register and a byte that was read.
-#[derive(Drop)]
+#[derive(Clone, Copy)]
 pub enum Alu {
     Adc,
     Sbc,
@@ -16,7 +16,7 @@ pub enum Alu {
 }
 
 // On the accumulator alone.
-#[derive(Drop)]
+#[derive(Clone, Copy)]
 pub enum Shift {
     Asl,
     Rol,
@@ -26,13 +26,13 @@ pub enum Shift {
     Dec,
 }
 
-#[derive(Drop)]
+#[derive(Clone, Copy)]
 pub struct Byte {
     pub byte: u8,
     pub flags: Flags,
 }
 
-#[derive(Drop)]
+#[derive(Clone, Copy)]
 pub struct Word {
     pub word: u16,
     pub flags: Flags,

@@ -47,7 +47,7 @@ pub fn put_day(mem: &mut [u8; 65536]) {
 }
 
 // A delivery found among the samples: its farm, what was counted, and where the next one's key stands.
-#[derive(Drop)]
+#[derive(Clone, Copy)]
 pub struct Flow {
     pub farm: u8,
     pub pulses: u64,

@@ -7,7 +7,7 @@ use std::num::wrapping_add_u64;
 use words::both;
 
 // What was added up to here, whether all of it agrees, and whether all of it could be written.
-#[derive(Drop)]
+#[derive(Clone, Copy)]
 pub struct Sums {
     pub key: usize, // where the next delivery's samples begin
     pub pulses: u64,

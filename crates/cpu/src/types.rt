@@ -3,7 +3,7 @@ use alu::types::Shift;
 use flags::Flags;
 
 // By the crate's names; scratch words `temp_addr`, `temp_data` and `temp_bank`.
-#[derive(Drop)]
+#[derive(Clone, Copy)]
 pub struct Record {
     pub a: u16,
     pub x: u16,
@@ -23,7 +23,7 @@ pub struct Record {
 }
 
 // What every cycle may change.
-#[derive(Drop)]
+#[derive(Clone, Copy)]
 pub struct Mid {
     pub pc: u16,
     pub s: u16,
@@ -34,7 +34,7 @@ pub struct Mid {
 }
 
 // What an operation may change.
-#[derive(Drop)]
+#[derive(Clone, Copy)]
 pub struct Regs {
     pub a: u16,
     pub x: u16,
@@ -44,7 +44,7 @@ pub struct Regs {
 }
 
 // The crate's `AddressType`.
-#[derive(Drop)]
+#[derive(Clone, Copy)]
 pub enum Kind {
     Opcode,
     Program,
@@ -52,7 +52,7 @@ pub enum Kind {
     Invalid,
 }
 
-#[derive(Drop)]
+#[derive(Clone, Copy)]
 pub struct Request {
     pub write: bool,
     pub kind: Kind,
@@ -61,7 +61,7 @@ pub struct Request {
 }
 
 // Document 01's list of refusals, by its numbers from 1 on.
-#[derive(Drop)]
+#[derive(Clone, Copy)]
 pub enum Refusal {
     Memory,
     Budget,
@@ -73,21 +73,21 @@ pub enum Refusal {
 }
 
 // What a record asks of the bus, or why it asks nothing.
-#[derive(Drop)]
+#[derive(Clone, Copy)]
 pub enum Asked {
     Ask(Request),
     No(Refusal),
 }
 
 // The record after a cycle, or why there is none.
-#[derive(Drop)]
+#[derive(Clone, Copy)]
 pub enum Answer {
     Next(Record),
     Refused(Refusal),
 }
 
 // The registers that operations work on.
-#[derive(Drop)]
+#[derive(Clone, Copy)]
 pub enum Reg {
     A,
     X,
@@ -95,7 +95,7 @@ pub enum Reg {
 }
 
 // What is stored or pushed.
-#[derive(Drop)]
+#[derive(Clone, Copy)]
 pub enum Source {
     Register(Reg),
     Zero,
@@ -106,7 +106,7 @@ pub enum Source {
 }
 
 // Which byte of an operand: the only one, or one of two.
-#[derive(Drop)]
+#[derive(Clone, Copy)]
 pub enum Part {
     Only,
     Low,
@@ -114,7 +114,7 @@ pub enum Part {
 }
 
 // How a pull moves S in emulation: `stack_pop` stays in page 1, `stack_pop_raw` does not, and RTL's first pull starts there.
-#[derive(Drop)]
+#[derive(Clone, Copy)]
 pub enum Stack {
     Paged,
     Raw,
@@ -122,7 +122,7 @@ pub enum Stack {
 }
 
 // A branch's condition.
-#[derive(Drop)]
+#[derive(Clone, Copy)]
 pub enum Cond {
     Always,
     Carry(bool),
@@ -132,7 +132,7 @@ pub enum Cond {
 }
 
 // An instruction of one byte and two cycles, and XBA.
-#[derive(Drop)]
+#[derive(Clone, Copy)]
 pub enum One {
     Accumulator(Shift),
     Carry(bool),

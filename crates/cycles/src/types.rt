@@ -3,7 +3,7 @@ use cpu::types::{Part, Refusal};
 use opcodes::types::Operation;
 
 // What a cycle puts on the bus.
-#[derive(Drop)]
+#[derive(Clone, Copy)]
 pub enum Ask {
     Program, // PBR:PC
     Idle, // PBR:PC
@@ -39,7 +39,7 @@ pub enum Ask {
 }
 
 // What a cycle does to PC, S, DBR and the scratch words.
-#[derive(Drop)]
+#[derive(Clone, Copy)]
 pub enum Move {
     Stay,
     Step,
@@ -78,7 +78,7 @@ pub enum Move {
 }
 
 // What a cycle does to A, X, Y, D and the flags.
-#[derive(Drop)]
+#[derive(Clone, Copy)]
 pub enum Change {
     Keep,
     Operate(Part),
@@ -93,7 +93,7 @@ pub enum Change {
 }
 
 // Where a cycle leads.
-#[derive(Drop)]
+#[derive(Clone, Copy)]
 pub enum To {
     On, // the instruction's next cycle
     End, // the next instruction's start
@@ -104,13 +104,13 @@ pub enum To {
     Moved, // the end, or the move's next byte
 }
 
-#[derive(Drop)]
+#[derive(Clone, Copy)]
 pub enum Cycle {
     Absent,
     Present(Ask, Move, Change, To),
 }
 
-#[derive(Drop)]
+#[derive(Clone, Copy)]
 pub enum Micro {
     Refuse(Refusal),
     Fetch,

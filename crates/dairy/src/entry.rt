@@ -3,7 +3,7 @@ use crate::yard::{get, is_decimal, past, value, word};
 use std::num::wrapping_add_u64;
 use words::both;
 
-#[derive(Drop)]
+#[derive(Clone, Copy)]
 pub struct Entry {
     pub farm: u8,
     pub round: u8,

@@ -6,7 +6,7 @@ use words::{both, either};
 const ROOM: usize = 256;
 
 // How much of the line is written, and which value is next.
-#[derive(Drop)]
+#[derive(Clone, Copy)]
 struct Pen {
     at: usize,
     next: usize,
@@ -144,7 +144,7 @@ fn say_agrees(agrees: bool) -> bool {
 }
 
 // What a check came to, and whether all of it could be written.
-#[derive(Drop)]
+#[derive(Clone, Copy)]
 pub struct Check {
     pub agrees: bool,
     pub told: bool,

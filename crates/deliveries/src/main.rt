@@ -9,7 +9,7 @@ use run::run::run;
 use std::num::wrapping_add_u64;
 
 // What is counted on the way.
-#[derive(Drop)]
+#[derive(Clone, Copy)]
 struct Yard {
     at: Record,
     added: u64,

@@ -5,7 +5,7 @@ ghost use Rattle.dial.specs.Dial.{packed, of_tens, dial_of, turn_of, tail_text};
 use trace::hex_pair;
 
 // The number of a trace's line, as a meter's dial shows it: seven digits and a last one, which turns on from line to line.
-#[derive(Drop)]
+#[derive(Clone, Copy)]
 pub struct Dial {
     pub front: u64, // the digits before the last, a byte each, the first one lowest
     pub width: usize, // how many they are

@@ -2,7 +2,7 @@
 use cpu::types::Record;
 
 // An opcode and the two bytes after it.
-#[derive(Drop)]
+#[derive(Clone, Copy)]
 pub struct Bytes {
     pub op: u8,
     pub first: u8,
@@ -10,7 +10,7 @@ pub struct Bytes {
 }
 
 // How many cycles were done at a stretch, the place after their lines, and the record.
-#[derive(Drop)]
+#[derive(Clone, Copy)]
 pub struct Walk {
     pub cycles: u32,
     pub place: usize,

@@ -7,7 +7,7 @@ use traced::traced::traced_run;
 use words::both;
 
 // How the day went. `moved` and `stopped` say that the first move and STP were come to at an instruction's start.
-#[derive(Drop)]
+#[derive(Clone, Copy)]
 pub struct Day {
     pub moved: bool,
     pub written: usize, // bytes of the trace

@@ -6,7 +6,7 @@ ghost use Rattle.flags.specs.Flags.{bit_of, weigh, byte_of, set_mask, set_byte, 
 
 use words::{choose, either};
 
-#[derive(Drop)]
+#[derive(Clone, Copy)]
 pub struct Flags {
     pub carry: bool,
     pub zero: bool,

@@ -1,7 +1,7 @@
 // What a line is found to be.
 
 // The first field that isn't as the format says.
-#[derive(Drop)]
+#[derive(Clone, Copy)]
 pub enum Fault {
     Length,
     Id,
@@ -13,7 +13,7 @@ pub enum Fault {
 }
 
 // Where the id ends, where the other fields begin, and how many cycles there are.
-#[derive(Drop)]
+#[derive(Clone, Copy)]
 pub struct Places {
     pub id: usize,
     pub start: usize,
@@ -22,21 +22,21 @@ pub struct Places {
     pub after: usize,
 }
 
-#[derive(Drop)]
+#[derive(Clone, Copy)]
 pub enum Line {
     Case(Places),
     Malformed(Fault),
 }
 
 // Where the cycles end, and how many they are; an end of 0 where they aren't as they should be.
-#[derive(Drop)]
+#[derive(Clone, Copy)]
 pub struct Span {
     pub end: usize,
     pub count: usize,
 }
 
 // The number of the line that is being read and how much of it has come; then what the lines before it came to.
-#[derive(Drop)]
+#[derive(Clone, Copy)]
 pub struct Tally {
     pub number: u64,
     pub size: usize,

@@ -2,7 +2,7 @@
 use alu::types::Alu;
 use cpu::types::{Cond, One, Reg, Source};
 
-#[derive(Drop)]
+#[derive(Clone, Copy)]
 pub enum Shape {
     Immediate,
     Absolute,
@@ -36,7 +36,7 @@ pub enum Shape {
     Move, // MVN, MVP
 }
 
-#[derive(Drop)]
+#[derive(Clone, Copy)]
 pub enum Operation {
     Plain,
     Read(Alu, Reg), // an operation between a register and what is read
@@ -47,7 +47,7 @@ pub enum Operation {
     Flag(bool), // REP: false, SEP: true; MVP, downwards: false, MVN, upwards: true
 }
 
-#[derive(Drop)]
+#[derive(Clone, Copy)]
 pub enum Op {
     Unlisted,
     Listed(Shape, Operation),

@@ -18,7 +18,7 @@ use tracks::{between, is_direct, is_store, less, place, second_kind, third_kind}
 use words::{both, low, up};
 
 // The next line's number, and its place in the text.
-#[derive(Drop)]
+#[derive(Clone, Copy)]
 pub struct Mark {
     pub dial: Dial,
     pub place: usize,

@@ -2,7 +2,7 @@
 use alu::types::Alu;
 use cpu::types::{One, Reg, Source};
 
-#[derive(Drop)]
+#[derive(Clone, Copy)]
 pub enum Mode {
     Immediate,
     Direct,
@@ -10,7 +10,7 @@ pub enum Mode {
 }
 
 // What a branch looks at.
-#[derive(Drop)]
+#[derive(Clone, Copy)]
 pub enum Test {
     Always,
     Carry,
@@ -19,7 +19,7 @@ pub enum Test {
     Overflow,
 }
 
-#[derive(Drop)]
+#[derive(Clone, Copy)]
 pub enum Quick {
     Slow, // any other opcode, a move among them, and a byte that is none
     Read(Mode, Alu, Reg),

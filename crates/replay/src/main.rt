@@ -5,7 +5,7 @@ use thresh::tally::{finish, take_bytes};
 use verdict::report::say;
 
 // What one read of the file came to.
-#[derive(Drop)]
+#[derive(Clone, Copy)]
 enum Reading {
     More(Tally),
     End(Tally),

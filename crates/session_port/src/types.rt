@@ -1,14 +1,14 @@
 // What lent bytes are found to be.
 use session::types::Session;
 
-#[derive(Drop)]
+#[derive(Clone, Copy)]
 pub enum Opened {
     Good(Session),
     Bad, // no session: another length, or no packed record at the front
 }
 
 // How so many cycles ended.
-#[derive(Drop)]
+#[derive(Clone, Copy)]
 pub struct Went {
     pub session: Session,
     pub cycles: u32, // how many were completed
@@ -16,7 +16,7 @@ pub struct Went {
 }
 
 // The same without the session.
-#[derive(Drop)]
+#[derive(Clone, Copy)]
 pub struct Tally {
     pub cycles: u32,
     pub number: u8,

@@ -2,7 +2,7 @@
 use cpu::types::{Record, Regs};
 
 // An operand's place, the instruction's cycles, 0 where it lies outside the memory, and the program counter after it.
-#[derive(Drop)]
+#[derive(Clone, Copy)]
 pub struct Spot {
     pub place: u16,
     pub cycles: u8,
@@ -10,7 +10,7 @@ pub struct Spot {
 }
 
 // The cycles, 0 where the instruction isn't a quick one or leaves the memory; what is left of it, but the memory.
-#[derive(Drop)]
+#[derive(Clone, Copy)]
 pub struct Leg {
     pub cycles: u8,
     pub pc: u16,
@@ -20,7 +20,7 @@ pub struct Leg {
 }
 
 // How many cycles of whole instructions were done, and the record after them.
-#[derive(Drop)]
+#[derive(Clone, Copy)]
 pub struct Stretch {
     pub cycles: u32,
     pub after: Record,

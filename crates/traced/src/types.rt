@@ -1,7 +1,7 @@
 // How a traced run ended.
 use cpu::types::Record;
 
-#[derive(Drop)]
+#[derive(Clone, Copy)]
 pub struct Traced {
     pub refusal: u8, // document 01's number, or 0 for none
     pub cycles: u32, // how many were completed

@@ -1,5 +1,5 @@
 // Which cycles a whole instruction has, and in what order.
-#[derive(Drop)]
+#[derive(Clone, Copy)]
 pub enum Track {
     Inside, // one byte, and an internal cycle
     Program, // immediate, or JMP a: bytes of the program
