@@ -8,7 +8,7 @@ returns-in-Only c = simp (
   c.with_value.ensures,
   c.with_low.ensures,
   c.set_nz.ensures,
-  c.enum_told-1.given.1,
+  c.in-Only.is,
   c.value_of-v.ensures,
 )
 
@@ -17,7 +17,7 @@ unfolding pulls
 returns-in-Low c = simp (
   c.with_value-in-Low.ensures,
   c.with_low-in-Low.ensures,
-  c.enum_told-in-Low-1.given.1,
+  c.in-Low.is,
   c.value_of-v.ensures,
 )
 
@@ -28,6 +28,6 @@ returns-in-High c = simp (
   c.with_value-in-High.ensures,
   c.set_nz-in-High.ensures,
   c.with_high-w.ensures,
-  c.enum_told-in-High-1.given.1,
+  c.in-High.is,
   c.value_of-v.ensures,
 )

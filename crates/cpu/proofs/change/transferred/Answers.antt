@@ -11,5 +11,5 @@ returns c = simp (
   c.with_low.ensures,
   c.low.ensures,
   c.value_of.ensures,
-  c.is_IsWide.ensures,
+  c.is_wide-wide.ensures,
 )
