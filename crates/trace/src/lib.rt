@@ -1,4 +1,6 @@
 // The text of a trace, written into a lent buffer: the header, and a line for each completed cycle.
+#![tactic(auto)]
+
 ghost use Rattle.std.specs.Prelude.{◌≡◌, [], ◌∷◌, ◌++◌, ◌+◌, ◌*◌, ◌/◌, ◌%◌, ◌≤◌, ◌<◌, leb, length};
 ghost use Rattle.trace.specs.Text.{decimal, hex_digit, hex2, hex6, letter, direction, line_text, header, Put, Wrote};
 ghost use Rattle.trace.specs.Places.{digit_at, upper_of, lower_of, front_of, four_of};
