@@ -1,4 +1,6 @@
 // A trace's lines one after the other: the number of each turned on from the one before, and the end of a line as a word.
+#![tactic(auto)]
+
 ghost use Rattle.std.specs.Prelude.{◌≡◌};
 ghost use Rattle.dial.specs.Dial.{packed, of_tens, dial_of, turn_of, tail_text};
 
