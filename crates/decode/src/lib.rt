@@ -1,4 +1,6 @@
 // The decode: one match on the opcode byte.
+#![tactic(auto)]
+
 ghost use Rattle.std.specs.Prelude.{◌≡◌};
 ghost use Rattle.opcodes.specs.Opcodes.{decode_of};
 ghost use Rattle.decode.specs.Columns.{one_of, column_of, operation_of, index_of, condition_of};
