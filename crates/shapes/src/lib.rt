@@ -1,4 +1,6 @@
 // The shape of each byte.
+#![tactic(auto)]
+
 ghost use Rattle.std.specs.Prelude.{◌≡◌, ◌<◌};
 ghost use Rattle.opcodes.specs.Opcodes.{decode_of};
 ghost use Rattle.shapes.specs.Shapes.{shape_number};
