@@ -137,4 +137,4 @@ returns-in-251 c = sym (ap one_of c.in-251.is)
 
 pub returns-in_default : goal.returns-in_default
 unfolding one_of one_bytes
-returns-in_default c = sym (find_none Nop _ one_bytes keys tt c.in_default.rest)
+returns-in_default c = sym (find_none Nop _ one_bytes keys tt c.in_default.in_default-own.rest)

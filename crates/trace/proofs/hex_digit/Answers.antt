@@ -63,4 +63,4 @@ unfolding hex_digit
 returns-in-14 c = simp c.in-14.is
 
 pub returns-in_default : goal.returns-in_default
-returns-in_default c = last_digit _ c.requires c.in_default.rest
+returns-in_default c = last_digit _ c.requires c.in_default.in_default-own.rest

@@ -4,8 +4,8 @@ use lib.ListN.{length, take}
 use Rattle.trace.specs.Text.{Wrote}
 use Rattle.trace.proofs.put_bytes.Given as goal
 
-abbrev invariant-loop : goal.invariant-loop
-invariant-loop text₀ at src i₀ text i = (i ≤ length src) × (length text ≡ length text₀) × Wrote text₀ text at (at + i) (take i src)
+abbrev pub invariant-loop-i : goal.invariant-loop-i
+invariant-loop-i l = (l.i ≤ length l.src) × (length l.text ≡ length l.initial.text) × Wrote l.initial.text l.text l.at (l.at + l.i) (take l.i l.src)
 
-abbrev decreases-loop : goal.decreases-loop
-decreases-loop text₀ at src i₀ text i = length src - i
+abbrev pub decreases-loop-i : goal.decreases-loop-i
+decreases-loop-i l = length l.src - l.i
