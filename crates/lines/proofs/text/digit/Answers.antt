@@ -1,0 +1,11 @@
+use Rattle.std.proofs.Common.{le-ltb, lt-ltb}
+use Rattle.trace.specs.Text.{hex_digit}
+use Rattle.lines.proofs.text.digit.Goals as goal
+
+pub returns-then-d-lt10 : goal.returns-then-d-lt10
+unfolding hex_digit
+returns-then-d-lt10 c = simp (lt-ltb _ _ c.if-d-lt10.true)
+
+pub returns-else-d-lt10 : goal.returns-else-d-lt10
+unfolding hex_digit
+returns-else-d-lt10 c = simp (le-ltb _ _ c.if-d-lt10.false)
