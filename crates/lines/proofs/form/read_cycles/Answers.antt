@@ -7,7 +7,7 @@ unfolding after_read
 returns-then-not-is_at c = simp (
   c.if-not-is_at.true-raw,
   ← c.is_at.ensures,
-  ← c.Span-of.ensures,
+  ← c.span_of-span.ensures,
   ← c.past-cycles.ensures,
 )
 
@@ -19,7 +19,7 @@ returns-then-not-is_state c = simp (
   ← c.past-after.ensures,
   c.if-not-is_at.false-raw,
   ← c.is_at.ensures,
-  ← c.Span-of.ensures,
+  ← c.span_of-span.ensures,
   ← c.past-cycles.ensures,
 )
 
@@ -33,7 +33,7 @@ returns-then-past-text c = simp (
   ← c.past-after.ensures,
   c.if-not-is_at.false-raw,
   ← c.is_at.ensures,
-  ← c.Span-of.ensures,
+  ← c.span_of-span.ensures,
   ← c.past-cycles.ensures,
 )
 
@@ -47,6 +47,6 @@ returns c = simp (
   ← c.past-after.ensures,
   c.if-not-is_at.false-raw,
   ← c.is_at.ensures,
-  ← c.Span-of.ensures,
+  ← c.span_of-span.ensures,
   ← c.past-cycles.ensures,
 )
