@@ -1,7 +1,7 @@
 -- Bytes that a loop puts one after the other are put at once.
 use Prim.Native.Nat.{ℕ, zero, suc, ◌+◌, ◌≤◌, ◌<◌}
 use mathlib.Core.Path.{◌≡◌, ◌∙◌}
-use mathlib.Core.List.{List, [], ◌∷◌, ◌++◌, append_nil}
+use mathlib.Core.List.{List, [], ◌∷◌, ◌++◌, append-nil}
 use native.Mathlib.Omega.{arith}
 use native.Mathlib.Nat.{add-zero, zero-add, not-suc-le-zero}
 use native.Mathlib.Numerals.{add-one}
@@ -31,11 +31,11 @@ placed_none s t at h = rw (lt-leb _ _ h)
 -- as many bytes as there were: nothing is left of those
 pub placed_whole : (s t : List ℕ) → length t ≡ length s → placed t 0 s ≡ s
 placed_whole s t h =
-    rw (le-leb (0 + length s) (length t) (omega arith), sets-eq s t 0 (omega arith), drop_of_length-le t {i = 0 + length s} (omega arith)) (append_nil s)
+    rw (le-leb (0 + length s) (length t) (omega arith), sets-eq s t 0 (omega arith), drop_of_length-le t {i = 0 + length s} (omega arith)) (append-nil s)
 
 -- some at the front and others up to the end
 pub placed_both : (s u t : List ℕ) (n : ℕ) → length s ≡ n → length t ≡ n + length u → placed (placed t 0 s) n u ≡ s ++ u
 placed_both s u t n h k =
     let e : placed t 0 s ≡ s ++ drop n t = rw (le-leb (0 + length s) (length t) (omega arith), sets-eq s t 0 (omega arith), zero-add, h) in
     let l : length (s ++ drop n t) ≡ length t = omega (arith, length-append s (drop n t), length-drop n t) in
-    rw (e, le-leb (n + length u) (length (s ++ drop n t)) (omega arith), sets-eq u (s ++ drop n t) n (omega arith), take_at s (drop n t) n h, drop_of_length-le (s ++ drop n t) {i = n + length u} (omega arith)) (append_nil (s ++ u))
+    rw (e, le-leb (n + length u) (length (s ++ drop n t)) (omega arith), sets-eq u (s ++ drop n t) n (omega arith), take_at s (drop n t) n h, drop_of_length-le (s ++ drop n t) {i = n + length u} (omega arith)) (append-nil (s ++ u))
