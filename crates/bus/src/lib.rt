@@ -1,4 +1,6 @@
 // What a cycle asks of the bus.
+#![tactic(auto)]
+
 ghost use Rattle.std.specs.Prelude.{◌≡◌};
 ghost use Rattle.bus.specs.Bus.{reads, writes, here, far, far_next, entry, given, pushes, ask_of};
 ghost use Rattle.words.specs.Words.{at};

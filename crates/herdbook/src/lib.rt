@@ -1,4 +1,6 @@
 // The list of opcodes as a look-up: what the loops of cycles decode by.
+#![tactic(auto)]
+
 ghost use Rattle.std.specs.Prelude.{true, ◌≡◌};
 ghost use Rattle.opcodes.specs.Opcodes.{decode_of};
 ghost use Rattle.herdbook.specs.Herdbook.{shape_at, operation_at, entry_at, in_book};

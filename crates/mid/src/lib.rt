@@ -1,4 +1,6 @@
 // What a cycle does to PC, S, DBR and the scratch words.
+#![tactic(auto)]
+
 ghost use Rattle.std.specs.Prelude.{◌≡◌};
 ghost use Rattle.words.specs.Words.{pick, inc, dec};
 ghost use Rattle.cpu.specs.Record.{mid_of, regs_of, pushed, pulled};

@@ -1,4 +1,6 @@
 // From a shape and a cycle's number to what the cycle asks and does.
+#![tactic(auto)]
+
 ghost use Rattle.std.specs.Prelude.{◌≡◌};
 ghost use Rattle.cycles.specs.Cycles.{phase_of, carrying, held_micro};
 

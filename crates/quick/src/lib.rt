@@ -1,4 +1,6 @@
 // The opcodes that a quick path takes.
+#![tactic(auto)]
+
 ghost use Rattle.std.specs.Prelude.{◌≡◌};
 ghost use Rattle.quick.specs.Quick.{quick_of};
 

@@ -1,4 +1,6 @@
 // Pushes and pulls, cycle by cycle: the lists of crates/cycles/specs/Cycles.antt, read by number.
+#![tactic(auto)]
+
 ghost use Rattle.std.specs.Prelude.{◌≡◌, get_or};
 ghost use Rattle.cycles.specs.Cycles.{pea, pei, per, pull, pull_b, pull_d, pull_p, push};
 ghost use Rattle.cycles.specs.declared.types.Cycle.TheVariants.{Absent};

@@ -217,36 +217,36 @@ returns-in-27 c = rw c.one_byte-in-27.ensures (among (λ (n : ℕ). Listed Impli
 
 pub returns-in-132-to-134 : goal.returns-in-132-to-134
 unfolding decode_of opcodes one_bytes
-returns-in-132-to-134 c = rw c.column-in-132-to-134.ensures (among (λ (n : ℕ). Missed keys n → Listed StoreDirect (Give (Register (column_of n))) ≡ decode_of n) (0x84 ∷ 0x85 ∷ 0x86 ∷ []) _ (within 2 0x84 _ c.if-op-lt132.false c.in-132-to-134.if-op-lt135-own.true) ((λ h. refl), ((λ h. refl), ((λ h. refl), tt))) c.in_default-1.rest)
+returns-in-132-to-134 c = rw c.column-in-132-to-134.ensures (among (λ (n : ℕ). Missed keys n → Listed StoreDirect (Give (Register (column_of n))) ≡ decode_of n) (0x84 ∷ 0x85 ∷ 0x86 ∷ []) _ (within 2 0x84 _ c.in-132-to-134.if-op-lt132-own.false c.in-132-to-134.if-op-lt135-own.true) ((λ h. refl), ((λ h. refl), ((λ h. refl), tt))) c.in-132-to-134.in_default-own.rest)
 
 pub returns-in-140-to-142 : goal.returns-in-140-to-142
 unfolding decode_of opcodes one_bytes
-returns-in-140-to-142 c = rw c.column-in-140-to-142.ensures (among (λ (n : ℕ). Missed keys n → Listed StoreAbsolute (Give (Register (column_of n))) ≡ decode_of n) (0x88 ∷ 0x89 ∷ 0x8A ∷ 0x8B ∷ 0x8C ∷ 0x8D ∷ 0x8E ∷ []) _ (within 6 0x88 _ c.if-op-lt136.false c.in-140-to-142.if-op-lt143-own.true) ((λ h. not_missed 0x88 keys tt h), ((λ h. not_missed 0x89 keys tt h), ((λ h. not_missed 0x8A keys tt h), ((λ h. not_missed 0x8B keys tt h), ((λ h. refl), ((λ h. refl), ((λ h. refl), tt))))))) c.in_default-1.rest)
+returns-in-140-to-142 c = rw c.column-in-140-to-142.ensures (among (λ (n : ℕ). Missed keys n → Listed StoreAbsolute (Give (Register (column_of n))) ≡ decode_of n) (0x88 ∷ 0x89 ∷ 0x8A ∷ 0x8B ∷ 0x8C ∷ 0x8D ∷ 0x8E ∷ []) _ (within 6 0x88 _ c.in-140-to-142.if-op-lt136-own.false c.in-140-to-142.if-op-lt143-own.true) ((λ h. not_missed 0x88 keys tt h), ((λ h. not_missed 0x89 keys tt h), ((λ h. not_missed 0x8A keys tt h), ((λ h. not_missed 0x8B keys tt h), ((λ h. refl), ((λ h. refl), ((λ h. refl), tt))))))) c.in-140-to-142.in_default-own.rest)
 
 pub returns-in-164-to-166 : goal.returns-in-164-to-166
 unfolding decode_of opcodes one_bytes
-returns-in-164-to-166 c = rw c.column-in-164-to-166.ensures (among (λ (n : ℕ). Missed keys n → Listed Direct (Read Load (column_of n)) ≡ decode_of n) (0xA4 ∷ 0xA5 ∷ 0xA6 ∷ []) _ (within 2 0xA4 _ c.if-op-lt164.false c.in-164-to-166.if-op-lt167-own.true) ((λ h. refl), ((λ h. refl), ((λ h. refl), tt))) c.in_default-1.rest)
+returns-in-164-to-166 c = rw c.column-in-164-to-166.ensures (among (λ (n : ℕ). Missed keys n → Listed Direct (Read Load (column_of n)) ≡ decode_of n) (0xA4 ∷ 0xA5 ∷ 0xA6 ∷ []) _ (within 2 0xA4 _ c.in-164-to-166.if-op-lt164-own.false c.in-164-to-166.if-op-lt167-own.true) ((λ h. refl), ((λ h. refl), ((λ h. refl), tt))) c.in-164-to-166.in_default-own.rest)
 
 pub returns-in-172-to-174 : goal.returns-in-172-to-174
 unfolding decode_of opcodes one_bytes
-returns-in-172-to-174 c = rw c.column-in-172-to-174.ensures (among (λ (n : ℕ). Missed keys n → Listed Absolute (Read Load (column_of n)) ≡ decode_of n) (0xA8 ∷ 0xA9 ∷ 0xAA ∷ 0xAB ∷ 0xAC ∷ 0xAD ∷ 0xAE ∷ []) _ (within 6 0xA8 _ c.if-op-lt168.false c.in-172-to-174.if-op-lt175-own.true) ((λ h. not_missed 0xA8 keys tt h), ((λ h. not_missed 0xA9 keys tt h), ((λ h. not_missed 0xAA keys tt h), ((λ h. not_missed 0xAB keys tt h), ((λ h. refl), ((λ h. refl), ((λ h. refl), tt))))))) c.in_default-1.rest)
+returns-in-172-to-174 c = rw c.column-in-172-to-174.ensures (among (λ (n : ℕ). Missed keys n → Listed Absolute (Read Load (column_of n)) ≡ decode_of n) (0xA8 ∷ 0xA9 ∷ 0xAA ∷ 0xAB ∷ 0xAC ∷ 0xAD ∷ 0xAE ∷ []) _ (within 6 0xA8 _ c.in-172-to-174.if-op-lt168-own.false c.in-172-to-174.if-op-lt175-own.true) ((λ h. not_missed 0xA8 keys tt h), ((λ h. not_missed 0xA9 keys tt h), ((λ h. not_missed 0xAA keys tt h), ((λ h. not_missed 0xAB keys tt h), ((λ h. refl), ((λ h. refl), ((λ h. refl), tt))))))) c.in-172-to-174.in_default-own.rest)
 
 pub returns-in_default : goal.returns-in_default
 unfolding decode_of opcodes one_bytes
-returns-in_default c = sym (find_none Unlisted _ opcodes (ranges keys) tt ((((c.in_default-1.rest, below 0x84 _ (0x84 ∷ 0x85 ∷ 0x86 ∷ []) tt c.in_default.if-op-lt132-own.true), below 0x84 _ (0x8C ∷ 0x8D ∷ 0x8E ∷ []) tt c.in_default.if-op-lt132-own.true), below 0x84 _ (0xA4 ∷ 0xA5 ∷ 0xA6 ∷ []) tt c.in_default.if-op-lt132-own.true), below 0x84 _ (0xAC ∷ 0xAD ∷ 0xAE ∷ []) tt c.in_default.if-op-lt132-own.true))
+returns-in_default c = sym (find_none Unlisted _ opcodes (ranges keys) tt ((((c.in_default.in_default-own.rest, below 0x84 _ (0x84 ∷ 0x85 ∷ 0x86 ∷ []) tt c.in_default.if-op-lt132-own.true), below 0x84 _ (0x8C ∷ 0x8D ∷ 0x8E ∷ []) tt c.in_default.if-op-lt132-own.true), below 0x84 _ (0xA4 ∷ 0xA5 ∷ 0xA6 ∷ []) tt c.in_default.if-op-lt132-own.true), below 0x84 _ (0xAC ∷ 0xAD ∷ 0xAE ∷ []) tt c.in_default.if-op-lt132-own.true))
 
 pub returns-in_default-2 : goal.returns-in_default-2
 unfolding decode_of opcodes one_bytes
-returns-in_default-2 c = sym (find_none Unlisted _ opcodes (ranges keys) tt ((((c.in_default-1.rest, above 0x87 _ (0x84 ∷ 0x85 ∷ 0x86 ∷ []) tt c.if-op-lt135.false), below 0x88 _ (0x8C ∷ 0x8D ∷ 0x8E ∷ []) tt c.in_default.if-op-lt136-own.true), below 0x88 _ (0xA4 ∷ 0xA5 ∷ 0xA6 ∷ []) tt c.in_default.if-op-lt136-own.true), below 0x88 _ (0xAC ∷ 0xAD ∷ 0xAE ∷ []) tt c.in_default.if-op-lt136-own.true))
+returns-in_default-2 c = sym (find_none Unlisted _ opcodes (ranges keys) tt ((((c.in_default.in_default-own.rest, above 0x87 _ (0x84 ∷ 0x85 ∷ 0x86 ∷ []) tt c.in_default.if-op-lt135-own.false), below 0x88 _ (0x8C ∷ 0x8D ∷ 0x8E ∷ []) tt c.in_default.if-op-lt136-own.true), below 0x88 _ (0xA4 ∷ 0xA5 ∷ 0xA6 ∷ []) tt c.in_default.if-op-lt136-own.true), below 0x88 _ (0xAC ∷ 0xAD ∷ 0xAE ∷ []) tt c.in_default.if-op-lt136-own.true))
 
 pub returns-in_default-3 : goal.returns-in_default-3
 unfolding decode_of opcodes one_bytes
-returns-in_default-3 c = sym (find_none Unlisted _ opcodes (ranges keys) tt ((((c.in_default-1.rest, above 0x87 _ (0x84 ∷ 0x85 ∷ 0x86 ∷ []) tt c.if-op-lt135.false), above 0x8F _ (0x8C ∷ 0x8D ∷ 0x8E ∷ []) tt c.if-op-lt143.false), below 0xA4 _ (0xA4 ∷ 0xA5 ∷ 0xA6 ∷ []) tt c.in_default.if-op-lt164-own.true), below 0xA4 _ (0xAC ∷ 0xAD ∷ 0xAE ∷ []) tt c.in_default.if-op-lt164-own.true))
+returns-in_default-3 c = sym (find_none Unlisted _ opcodes (ranges keys) tt ((((c.in_default.in_default-own.rest, above 0x87 _ (0x84 ∷ 0x85 ∷ 0x86 ∷ []) tt c.in_default.if-op-lt135-own.false), above 0x8F _ (0x8C ∷ 0x8D ∷ 0x8E ∷ []) tt c.in_default.if-op-lt143-own.false), below 0xA4 _ (0xA4 ∷ 0xA5 ∷ 0xA6 ∷ []) tt c.in_default.if-op-lt164-own.true), below 0xA4 _ (0xAC ∷ 0xAD ∷ 0xAE ∷ []) tt c.in_default.if-op-lt164-own.true))
 
 pub returns-in_default-4 : goal.returns-in_default-4
 unfolding decode_of opcodes one_bytes
-returns-in_default-4 c = sym (find_none Unlisted _ opcodes (ranges keys) tt ((((c.in_default-1.rest, above 0x87 _ (0x84 ∷ 0x85 ∷ 0x86 ∷ []) tt c.if-op-lt135.false), above 0x8F _ (0x8C ∷ 0x8D ∷ 0x8E ∷ []) tt c.if-op-lt143.false), above 0xA7 _ (0xA4 ∷ 0xA5 ∷ 0xA6 ∷ []) tt c.if-op-lt167.false), below 0xA8 _ (0xAC ∷ 0xAD ∷ 0xAE ∷ []) tt c.in_default.if-op-lt168-own.true))
+returns-in_default-4 c = sym (find_none Unlisted _ opcodes (ranges keys) tt ((((c.in_default.in_default-own.rest, above 0x87 _ (0x84 ∷ 0x85 ∷ 0x86 ∷ []) tt c.in_default.if-op-lt135-own.false), above 0x8F _ (0x8C ∷ 0x8D ∷ 0x8E ∷ []) tt c.in_default.if-op-lt143-own.false), above 0xA7 _ (0xA4 ∷ 0xA5 ∷ 0xA6 ∷ []) tt c.in_default.if-op-lt167-own.false), below 0xA8 _ (0xAC ∷ 0xAD ∷ 0xAE ∷ []) tt c.in_default.if-op-lt168-own.true))
 
 pub returns-in_default-5 : goal.returns-in_default-5
 unfolding decode_of opcodes one_bytes
-returns-in_default-5 c = sym (find_none Unlisted _ opcodes (ranges keys) tt ((((c.in_default-1.rest, above 0x87 _ (0x84 ∷ 0x85 ∷ 0x86 ∷ []) tt c.if-op-lt135.false), above 0x8F _ (0x8C ∷ 0x8D ∷ 0x8E ∷ []) tt c.if-op-lt143.false), above 0xA7 _ (0xA4 ∷ 0xA5 ∷ 0xA6 ∷ []) tt c.if-op-lt167.false), above 0xAF _ (0xAC ∷ 0xAD ∷ 0xAE ∷ []) tt c.in_default.if-op-lt175-own.false))
+returns-in_default-5 c = sym (find_none Unlisted _ opcodes (ranges keys) tt ((((c.in_default.in_default-own.rest, above 0x87 _ (0x84 ∷ 0x85 ∷ 0x86 ∷ []) tt c.in_default.if-op-lt135-own.false), above 0x8F _ (0x8C ∷ 0x8D ∷ 0x8E ∷ []) tt c.in_default.if-op-lt143-own.false), above 0xA7 _ (0xA4 ∷ 0xA5 ∷ 0xA6 ∷ []) tt c.in_default.if-op-lt167-own.false), above 0xAF _ (0xAC ∷ 0xAD ∷ 0xAE ∷ []) tt c.in_default.if-op-lt175-own.false))
