@@ -21,7 +21,7 @@ unfolding word_taken
 returns-then-fits c = (
   simp (
     c.if-fits.true,
-    ← c.fits2.ensures,
+    ← c.fits.ensures,
     c.in-Good.is,
     ← c.hex-read.ensures,
     ← c.digits.ensures,
@@ -29,7 +29,7 @@ returns-then-fits c = (
   simp (
     c.lay.ensures,
     c.if-fits.true,
-    ← c.fits2.ensures,
+    ← c.fits.ensures,
     c.in-Good.is,
     ← c.hex-read.ensures,
     ← c.digits.ensures,
@@ -41,14 +41,14 @@ unfolding word_taken
 returns c = (
   simp (
     c.if-fits.false,
-    ← c.fits2.ensures,
+    ← c.fits.ensures,
     c.in-Good.is,
     ← c.hex-read.ensures,
     ← c.digits.ensures,
   ),
   simp (
     c.if-fits.false,
-    ← c.fits2.ensures,
+    ← c.fits.ensures,
     c.in-Good.is,
     ← c.hex-read.ensures,
     ← c.digits.ensures,
