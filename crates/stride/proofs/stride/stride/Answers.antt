@@ -5,7 +5,7 @@ use Rattle.stride.proofs.stride.stride.Goals as goal
 pub returns-then-mem-eq65536-clause-value : goal.returns-then-mem-eq65536-clause-value
 unfolding stride_of stride_mem
 returns-then-mem-eq65536-clause-value c = let w = eq-eqb _ _ c.if-mem-eq65536.true in
-    ((simp (w, c.stride_in.ensures.0), simp (w, c.stride_in.ensures.1)), c.word_inside.ensures)
+    (simp (w, c.stride_in.ensures.0), simp (w, c.stride_in.ensures.1))
 
 pub returns-else-mem-eq65536-clause-value : goal.returns-else-mem-eq65536-clause-value
 unfolding stride_of stride_mem
