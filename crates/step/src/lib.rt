@@ -1,6 +1,8 @@
 // The two entries of a cycle: the request of a record, and the record after the answered byte. They decode by the one match,
 // and the table of shapes says which fetched bytes are listed.
 // Whoever runs many cycles works out `well_micro` once a cycle; crates/memory takes it apart once, and does both halves by it.
+#![tactic(auto)]
+
 ghost use Rattle.std.specs.Prelude.{◌≡◌};
 ghost use Rattle.opcodes.specs.Opcodes.{decode_of};
 ghost use Rattle.step.specs.Cycle.{well_micro, micro_of, begun_if, begun, asked_by, answered_by, request_of, answer_of};
