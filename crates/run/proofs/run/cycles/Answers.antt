@@ -9,19 +9,19 @@ pub returns-in_default : goal.returns-in_default
 returns-in_default c =
     let t = turned _ _ _ _ c.ahead-far.ensures.goes.1 c.well_micro.ensures c.turn-t.ensures.0 in
     let g = c.in_default.is in
-    let far = left_ahead _ _ _ _ _ _ _ _ c.ahead-far.ensures.less.0 c.ahead-far.ensures.goes.0 c.loop-done.invariant.3 in
-    let a = left_stop _ _ _ _ _ _ _ _ (omega (arith, c.ahead-far.ensures.less.0)) t c.turn-t.ensures.1 g far in
+    let far = left_ahead _ _ _ _ _ _ _ _ c.ahead-far.ensures.less c.ahead-far.ensures.goes.0 c.loop-done.invariant.3 in
+    let a = left_stop _ _ _ _ _ _ _ _ (omega (arith, c.ahead-far.ensures.less)) t c.turn-t.ensures.1 g far in
     (rw (c.ended.ensures, c.refused_by.ensures, g) (left_told _ _ _ _ _ a), sym a.mem)
 
 pub loop-done-preserved : goal.loop-done-preserved
 loop-done-preserved c =
     let t = turned _ _ _ _ c.ahead-far.ensures.goes.1 c.well_micro.ensures c.turn-t.ensures.0 in
     let g = c.in-Done.is in
-    let far = left_ahead _ _ _ _ _ _ _ _ c.ahead-far.ensures.less.0 c.ahead-far.ensures.goes.0 c.loop-done.invariant.3 in (
-      omega (arith, c.ahead-far.ensures.less.0),
-      omega (arith, c.turn-t.auto.r.1.0, c.ahead-far.auto.mem.0, c.loop-done.invariant.1),
+    let far = left_ahead _ _ _ _ _ _ _ _ c.ahead-far.ensures.less c.ahead-far.ensures.goes.0 c.loop-done.invariant.3 in (
+      omega (arith, c.ahead-far.ensures.less),
+      omega (arith, c.turn-t.auto.mem, c.ahead-far.auto.mem, c.loop-done.invariant.1),
       still_well _ _ _ _ _ t g,
-      left_done _ _ _ _ _ _ _ _ _ (omega (arith, c.ahead-far.ensures.less.0)) t c.turn-t.ensures.1 g far,
+      left_done _ _ _ _ _ _ _ _ _ (omega (arith, c.ahead-far.ensures.less)) t c.turn-t.ensures.1 g far,
     )
 
 pub returns : goal.returns
