@@ -3,9 +3,9 @@
 
 usage: tools/respell.py      at the top of the repository, once, after the port's own script
 
-A definition or lemma is a name that a file of specs/ or proofs/ declares at its left edge, but for the
-answers in a function's own folder, whose names Rattle makes. Types and modules begin with a capital and
-stay. The names are turned wherever a whole name stands in an .antt file, and in the clauses, the lines
+A definition or lemma is a name that a file of specs/ or proofs/ declares, but for the answers in a
+function's own folder, whose names Rattle makes. Types and modules begin with a capital and stay, and so
+do the fields of Rattle's own records, which stand behind a dot. The names are turned wherever a whole name stands in an .antt file, and in the clauses, the lines
 `ghost use` and the comments of an .rt file; Rust's own text, strings and file names stay. A
 lemma that would have a definition's name gets `_lem` after it. The edits in must-fail/ are turned too.
 """
@@ -15,7 +15,7 @@ import re
 import sys
 
 NAME = r"[\w\-'·+]"
-DECLARED = re.compile(r"^(?:(?:abbrev|unfoldable|pub|opaque)\s+)*([^\s:(){}]+)\s*:(?!:)")
+DECLARED = re.compile(r"^\s*(?:(?:abbrev|unfoldable|pub|opaque)\s+)*([^\s:(){}]+)\s*:(?!:)")
 # definitions that have a lemma's name in snake case already
 ALREADY = {"is_move"}
 MADE = ("Proof.antt", "Answers.antt", "Invariants.antt")
@@ -76,7 +76,7 @@ def main():
         f.write(apart)
     names = declared()
     new = new_names(names)
-    any_name = re.compile(rf"(?<!{NAME})(?:{'|'.join(re.escape(n) for n in sorted(names, key=len, reverse=True))})(?!{NAME})")
+    any_name = re.compile(rf"(?<!{NAME})(?<!\w\.)(?:{'|'.join(re.escape(n) for n in sorted(names, key=len, reverse=True))})(?!{NAME})")
 
     def turn(part):
         return any_name.sub(lambda m: new[m.group(0)], part)
