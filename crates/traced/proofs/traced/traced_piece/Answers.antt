@@ -4,7 +4,7 @@ use mathlib.Core.Path.{◌≡◌, refl, sym, ◌∙◌}
 use lib.ListN.{length}
 use Rattle.run.specs.Runs.{size}
 use Rattle.traced.specs.Traces.{room_of}
-use Rattle.traced.proofs.Laws.{refused_1, refused_2, refused-3, accepted}
+use Rattle.traced.proofs.Laws.{refused_1, refused_2, refused_3, accepted}
 use Rattle.traced.proofs.traced.traced_piece.Goals as goal
 
 pub returns-then-mem-ne65536 : goal.returns-then-mem-ne65536
@@ -22,7 +22,7 @@ returns-then-text-room c =
     let k : length c.args.mem.now ≡ size = omega (arith, c.if-mem-ne65536.false) in
     let n = sym c.in_budget.ensures ∙ c.if-not-in_budget.false in
     let h : length c.args.text.now < room_of c.args.before c.args.budget = omega (arith, c.if-text-room.true, c.room.ensures) in
-    rw (c.ended-then-text-room.ensures, refused-3 c.args.before c.args.budget c.args.rec c.args.mem.now c.args.text.now k n h) (record { answer = refl; mem = refl; text = refl })
+    rw (c.ended-then-text-room.ensures, refused_3 c.args.before c.args.budget c.args.rec c.args.mem.now c.args.text.now k n h) (record { answer = refl; mem = refl; text = refl })
 
 pub returns : goal.returns
 returns c =
