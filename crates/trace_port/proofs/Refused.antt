@@ -36,7 +36,7 @@ module _ (b m t : List ℕ) (before n : ℕ) (h : Bytes b) where
   text_by_3 : (u : Unpacked) → u ≡ unpacked b → length m ≡ size → before + n ≤ most → length t < room_of before n
       → trace_bytes b m t before n ≡ still_text 3 b m t
   text_by_3 (Good r) e k l o =
-      trace_good b m t before n (Good r) e r refl ∙ rw (of-traced.refused-3 before n r m t k (le-leb (before + n) most l) o, same_bytes b r h (sym e))
+      trace_good b m t before n (Good r) e r refl ∙ rw (of-traced.refused_3 before n r m t k (le-leb (before + n) most l) o, same_bytes b r h (sym e))
   text_by_3 Bad e k l o = trace_bad b m t before n Bad e refl ∙ rw (text_3 (length m) (length t) before n k l o)
 
   pub trace_1 : (length m ≡ size → ⊥) → trace_bytes b m t before n ≡ still_text 1 b m t
