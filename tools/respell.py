@@ -5,7 +5,7 @@ usage: tools/respell.py      at the top of the repository, once, after the port'
 
 A definition or lemma is a name that a file of specs/ or proofs/ declares, but for the answers in a
 function's own folder, whose names Rattle makes. Types and modules begin with a capital and stay, and so
-do the fields of Rattle's own records, which stand behind a dot. The names are turned wherever a whole
+do the fields of Rattle's own records, which stand behind a dot that follows no module. The names are turned wherever a whole
 name stands in an .antt file, and in the clauses, the lines `ghost use` and the comments of an .rt file;
 Rust's own text, strings and file names stay. A lemma that would have a definition's name gets `_lem`
 after it. The edits in must-fail/ are turned too.
@@ -61,6 +61,16 @@ def in_source(text, turn):
     return "".join(out)
 
 
+def others_of(text):
+    """The names that a file takes from the library: they stay, though a crate here may have one that is spelt alike."""
+    own = {f"Rattle.{c}." for c in os.listdir("crates")}
+    taken = set()
+    for module, items in re.findall(r"(?m)^use ([^\s{]+)\.\{([^}]*)\}", text):
+        if not any((module + ".").startswith(o) for o in own):
+            taken |= {item.strip() for item in items.split(",")}
+    return taken
+
+
 def new_names(names, of_specs):
     new = {n: snake(n) for n in names}
     defined = {snake(n) for n in of_specs} | {s for n, s in new.items() if "-" not in n}
@@ -79,10 +89,19 @@ def main():
             f.write(re.sub(r"(?m)^in_order(?= :| )|(?<== )in_order(?= )", "in_order_lem", text))
     names, of_specs = declared()
     new = new_names(names, of_specs)
-    any_name = re.compile(rf"(?<!{NAME})(?<!\w\.)(?:{'|'.join(re.escape(n) for n in sorted(names, key=len, reverse=True))})(?!{NAME})")
+    any_name = re.compile(rf"(?<!{NAME})(?:{'|'.join(re.escape(n) for n in sorted(names, key=len, reverse=True))})(?!{NAME})")
 
     def turn(part):
-        return any_name.sub(lambda m: new[m.group(0)], part)
+        modules = set(re.findall(r"(?m)^use \S+ as (\S+)$", part))
+        others = others_of(part)
+
+        def one(m):
+            if m.group(0) in others:
+                return m.group(0)
+            before = re.search(r"([\w\-'·]+)\.$", part[: m.start()][-80:])
+            return m.group(0) if before and before.group(1) not in modules else new[m.group(0)]
+
+        return any_name.sub(one, part)
 
     for ending in (".antt", ".edit", ".rt"):
         for path in files(ending):
