@@ -55,14 +55,10 @@ fn letter(n: u32) -> u8 {
 // In place of the six X at the name's end, six letters for a number.
 fn number(name: &mut [u8], n: u32) {
     let mut left = n;
-    let mut i: usize = 1;
-    while i <= 6 {
-        if i <= name.len() {
-            let at = name.len() - i;
-            name[at] = letter(left);
-        }
+    for i in 1..7 {
+        let at = name.len().wrapping_sub(i);
+        put(name, at, letter(left));
         left /= 26;
-        i += 1;
     }
 }
 
