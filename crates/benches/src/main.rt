@@ -1,4 +1,5 @@
-// Runs document 01's figures of a trace and of a session over a lent memory and prints what came. The file 'stdout' has what the paper says.#![tactic(auto)]
+// Runs document 01's figures of a trace and of a session over a lent memory and prints what came. The file 'stdout' has what the paper says.
+#![tactic(auto)]
 
 mod benches;
 

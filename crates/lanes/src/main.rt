@@ -1,5 +1,6 @@
 // Runs document 01's figures of branches, returns, addresses and refusals through `request` and `answer` and prints what came, with all that was
-// asked of the bus and the byte that was answered. The file 'stdout' has what the paper says.#![tactic(auto)]
+// asked of the bus and the byte that was answered. The file 'stdout' has what the paper says.
+#![tactic(auto)]
 
 mod single;
 

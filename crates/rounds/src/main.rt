@@ -1,5 +1,6 @@
 // Runs document 01's figures of moves, and of what a refused run leaves, over a lent memory and prints what came. The file 'stdout' has what
-// the paper says.#![tactic(auto)]
+// the paper says.
+#![tactic(auto)]
 
 mod runs;
 
