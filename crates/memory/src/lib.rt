@@ -1,3 +1,5 @@
 // One cycle over a lent memory: a read is answered from it, a write is stored in it.
+#![tactic(auto)]
+
 pub mod turn;
 pub mod types;

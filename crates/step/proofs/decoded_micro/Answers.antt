@@ -8,7 +8,7 @@ returns-then-held c = simp (
   c.decode.ensures,
   c.if-held.true,
   c.if-well.true,
-  ← c.well-formed-2.ensures,
+  ← c.well_formed-well.ensures,
 )
 
 pub returns-else-held : goal.returns-else-held
@@ -16,9 +16,9 @@ unfolding micro_of
 returns-else-held c = simp (
   c.if-held.false,
   c.if-well.true,
-  ← c.well-formed-2.ensures,
+  ← c.well_formed-well.ensures,
 )
 
 pub returns-else-well : goal.returns-else-well
 unfolding micro_of
-returns-else-well c = simp (c.if-well.false, ← c.well-formed-2.ensures)
+returns-else-well c = simp (c.if-well.false, ← c.well_formed-well.ensures)

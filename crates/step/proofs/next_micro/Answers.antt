@@ -6,9 +6,9 @@ unfolding micro_of
 returns-then-well c = simp (
   c.well_micro.ensures,
   c.if-well.true,
-  ← c.well-formed-2.ensures,
+  ← c.well_formed-well.ensures,
 )
 
 pub returns-else-well : goal.returns-else-well
 unfolding micro_of
-returns-else-well c = simp (c.if-well.false, ← c.well-formed-2.ensures)
+returns-else-well c = simp (c.if-well.false, ← c.well_formed-well.ensures)
