@@ -1,4 +1,6 @@
 // A byte of a block move that is under way, at a call over a memory that stands for bank 0: what its seven cycles come to.
+#![tactic(auto)]
+
 ghost use Rattle.std.specs.Prelude.{◌≡◌, ◌<◌, eqb, length, get_or, set};
 ghost use Rattle.words.specs.Words.{pick, low_of};
 ghost use Rattle.stride.specs.Strides.{stretch};

@@ -1,4 +1,6 @@
 // The lines that a track leaves in a text: a line for each cycle of a whole instruction, or of a byte of a move.
+#![tactic(auto)]
+
 ghost use Rattle.std.specs.Prelude.{◌≡◌, false, ◌&&◌, [], ◌∷◌, ◌+◌, ◌%◌, ◌≤◌, eqb, leb, length, get_or};
 ghost use Rattle.std.proofs.lemmas.List.Edits.{sets};
 ghost use Rattle.words.specs.Words.{pick, inc};

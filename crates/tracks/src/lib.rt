@@ -1,4 +1,6 @@
 // The cycles of a whole instruction, as a trace tells them.
+#![tactic(auto)]
+
 ghost use Rattle.std.specs.Prelude.{◌≡◌, ◌-◌};
 ghost use Rattle.words.specs.Words.{bit};
 ghost use Rattle.tracks.specs.Tracks.{track_of, second, third, is_direct, is_store, middles, place_by};
