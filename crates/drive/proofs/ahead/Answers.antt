@@ -1,11 +1,11 @@
-use Rattle.drive.proofs.Whole.{stayed, stayed-inside}
+use Rattle.drive.proofs.Whole.{stayed, stayed_inside}
 use Rattle.drive.proofs.ahead.Goals as goal
 
 pub returns-then-r-ne0-clause-driven : goal.returns-then-r-ne0-clause-driven
-returns-then-r-ne0-clause-driven c = (rw c.walk_of.ensures (stayed-inside c.args.start c.args.before c.args.budget c.args.r c.args.mem.now c.args.text.now c.if-r-ne0.true)).0
+returns-then-r-ne0-clause-driven c = (rw c.walk_of.ensures (stayed_inside c.args.start c.args.before c.args.budget c.args.r c.args.mem.now c.args.text.now c.if-r-ne0.true)).0
 
 pub returns-then-r-ne0-clause-passes : goal.returns-then-r-ne0-clause-passes
-returns-then-r-ne0-clause-passes c = (rw c.walk_of.ensures (stayed-inside c.args.start c.args.before c.args.budget c.args.r c.args.mem.now c.args.text.now c.if-r-ne0.true)).1
+returns-then-r-ne0-clause-passes c = (rw c.walk_of.ensures (stayed_inside c.args.start c.args.before c.args.budget c.args.r c.args.mem.now c.args.text.now c.if-r-ne0.true)).1
 
 pub returns-else-go-clause-driven : goal.returns-else-go-clause-driven
 returns-else-go-clause-driven c = let i = c.if-go.false in

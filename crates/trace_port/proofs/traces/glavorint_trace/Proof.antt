@@ -4,7 +4,7 @@ use Rattle.traced.specs.declared.types.Traced.{Traced}
 use Rattle.packed.specs.Packed.{pack}
 use Rattle.packed.proofs.RoundTrip.{put_back}
 use Rattle.trace_port.specs.Port.{trace_number}
-use Rattle.trace_port.proofs.Laws.{trace-bad, trace-good, fits}
+use Rattle.trace_port.proofs.Laws.{trace_bad, trace_good, fits}
 use Rattle.trace_port.proofs.traces.glavorint_trace.Statement.{statement}
 use Rattle.trace_port.proofs.traces.glavorint_trace.Tie as tie
 
@@ -31,7 +31,7 @@ returns c =
     let m = c.before.before in
     let g = m.before.before in
     let x = g.before.before.before.before.before.args in
-    let e = trace-bad x.rec.now x.mem.now x.text.now x.before x.budget _ g.unpack.ensures m.enum_told.given.1 in
+    let e = trace_bad x.rec.now x.mem.now x.text.now x.before x.budget _ g.unpack.ensures m.enum_told.given.1 in
     (rw (e, c.trace-number.ensures, c.before.unfit_by.ensures), rw e, rw e, rw e)
 
 traced-piece-requires : tie.Need-traced-piece-requires
@@ -71,7 +71,7 @@ returns-2 c =
     let g = h.before.before in
     let x = g.before.before.before.before.before.args in
     let u = g.unpack.ensures in
-    let e = trace-good x.rec.now x.mem.now x.text.now x.before x.budget _ u _ h.u.given.1 in
+    let e = trace_good x.rec.now x.mem.now x.text.now x.before x.budget _ u _ h.u.given.1 in
     let t = o.traced-piece.ensures in (
       rw e (c.trace-number2.ensures ∙ ap (λ (z : Traced). trace_number z.refusal z.cycles z.written) t.answer),
       rw e (put_back x.rec.now _ _ _ _ (sym u ∙ h.u.given.1) k.pack.ensures p.put.ensures ∙ ap (λ (z : Traced). pack z.after) t.answer),
