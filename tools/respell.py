@@ -73,9 +73,10 @@ def new_names(names, of_specs):
 def main():
     # one lemma had a definition's name in snake case before this
     once = "crates/herdbook/proofs/Once.antt"
-    apart = re.sub(r"(?m)^in_order(?= :| )|(?<== )in_order(?= )", "in_order_lem", text_of(once))
-    with open(once, "w", encoding="utf-8") as f:
-        f.write(apart)
+    text = text_of(once)
+    if "inOrder" in text:
+        with open(once, "w", encoding="utf-8") as f:
+            f.write(re.sub(r"(?m)^in_order(?= :| )|(?<== )in_order(?= )", "in_order_lem", text))
     names, of_specs = declared()
     new = new_names(names, of_specs)
     any_name = re.compile(rf"(?<!{NAME})(?<!\w\.)(?:{'|'.join(re.escape(n) for n in sorted(names, key=len, reverse=True))})(?!{NAME})")

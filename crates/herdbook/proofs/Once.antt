@@ -105,8 +105,8 @@ number_of (Listed s o) = number_of_shape s * 256 + operation_number o
 
 -- each entry of a list has its place's number; behind the first each place is one more than it is in the rest
 abbrev in_order : {A : Type 0} → (number : A → ℕ) → (place : ℕ → ℕ) → List A → Bool
-in_order_lem number place [] = true
-in_order_lem number place (x ∷ xs) = eqb (number x) (place 0) && in_order number (λ k. place (suc k)) xs
+in_order number place [] = true
+in_order number place (x ∷ xs) = eqb (number x) (place 0) && in_order number (λ k. place (suc k)) xs
 
 in_order_lem : {A : Type 0} (number : A → ℕ) (place : ℕ → ℕ) (other : A) (xs : List A) → T (in_order number place xs) → (k : ℕ) → k < length xs → number (get_or xs k other) ≡ place k
 in_order_lem number place other [] t k h = absurd (not-suc-le-zero h)
