@@ -63,7 +63,7 @@ def in_source(text, turn):
 
 def new_names(names, of_specs):
     new = {n: snake(n) for n in names}
-    defined = {snake(n) for n in of_specs}
+    defined = {snake(n) for n in of_specs} | {s for n, s in new.items() if "-" not in n}
     for n, s in new.items():
         if "-" in n and n not in of_specs and s in defined:
             new[n] = s + "_lem"

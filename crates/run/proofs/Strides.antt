@@ -398,16 +398,16 @@ module _ (r : Record) (m : List ℕ) (whole : length m ≡ size) (bank : r.pbr �
     out = Next (ended op false r.pbr (pick t to p₂) r.s r.dbr (regs_of r));
   }
 
-  branch_row : (d t p : Bool) → run 8 plain_bus r ≡ branch_row t p
+  branch_row_lem : (d t p : Bool) → run 8 plain_bus r ≡ branch_row t p
       → Leaves (pick t (3 + bit p) 2) r m (arrived op (kept (pick t (3 + bit p) 2) (pick t to p₂) r)) m
       (track_lines Branch d op b₁ b₂ r.pc (operand r m) (pick t (3 + bit p) 2) m)
-  branch_row d false p h = leaves_row plain_bus _ _ _ h (in_bank _ _ _) (fetched_inside _ small, fetched _, (fetched_inside _ (inc_small _), fetched _, tt))
+  branch_row_lem d false p h = leaves_row plain_bus _ _ _ h (in_bank _ _ _) (fetched_inside _ small, fetched _, (fetched_inside _ (inc_small _), fetched _, tt))
       (simp (bank, at_zero))
-  branch_row d true false h =
+  branch_row_lem d true false h =
       leaves_row plain_bus _ _ _ h (in_bank _ _ _)
       (fetched_inside _ small, fetched _, (fetched_inside _ (inc_small _), fetched _, (fetched_inside _ (inc_small _), fetched _, tt)))
       (simp (bank, at_zero))
-  branch_row d true true h =
+  branch_row_lem d true true h =
       leaves_row plain_bus _ _ _ h (in_bank _ _ _)
       (fetched_inside _ small, fetched _, (fetched_inside _ (inc_small _), fetched _, (fetched_inside _ (inc_small _), fetched _, (fetched_inside _ (inc_small _), fetched _, tt))))
       (simp (bank, at_zero))
@@ -415,7 +415,7 @@ module _ (r : Record) (m : List ℕ) (whole : length m ≡ size) (bank : r.pbr �
   pub branch_leaves : (o : Operation) (w d : Bool) → run 8 plain_bus r ≡ sheet r plain_bus shape.Branch o w d r.flags.emulation
       → let t : Bool = holds (cond_in o) r.flags in
       Leaves (branching r m t).cycles r m (arrived op (branching r m t)) m (track_lines Branch d op b₁ b₂ r.pc (operand r m) (branching r m t).cycles m)
-  branch_leaves o w d h = branch_row d (holds (cond_in o) r.flags) (r.flags.emulation && not (same_page p₂ to)) h
+  branch_leaves o w d h = branch_row_lem d (holds (cond_in o) r.flags) (r.flags.emulation && not (same_page p₂ to)) h
 
   -- ---- a byte of a move that is under way, inside bank 0
   module _ (o : Operation) (x-small : r.x < 65536) (y-small : r.y < 65536) (banks : (b₁ ≡ 0) × (b₂ ≡ 0)) where

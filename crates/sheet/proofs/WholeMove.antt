@@ -199,10 +199,10 @@ module _ (o : Operation) (ir : ℕ) (k : decode_of ir ≡ Listed Move o) where
 
 -- For every well-formed record at an instruction's start, and any bytes answered, of which the first is MVN or MVP: byte after
 -- byte, as many as it takes, is the whole move.
-pub whole_move : (r : Record) (b : ℕ → ℕ → ℕ) (o : Operation) (n : ℕ) → well_formed r ≡ true → r.held ≡ false → r.pc < 65536 → r.a < 65536
+pub whole_move_lem : (r : Record) (b : ℕ → ℕ → ℕ) (o : Operation) (n : ℕ) → well_formed r ≡ true → r.held ≡ false → r.pc < 65536 → r.a < 65536
     → decode_of (b 0 0) ≡ Listed Move o → r.a < n → run_move n b r ≡ whole_move r (flag_in o) b
 unfolding instruction
-whole_move r b o n w h near small k fits =
+whole_move_lem r b o n w h near small k fits =
     move_law o (b 0 0) k r.a n r b refl small fits near (tidy_start r w h)
     (demand_2 r (b 0) w h near ∙ ap (row r (b 0)) k)
 
@@ -216,5 +216,5 @@ pub move_count : (r : Record) (b : ℕ → ℕ → ℕ) (o : Operation) (n : ℕ
     → decode_of (b 0 0) ≡ Listed Move o → r.a < n → length (run_move n b r).requests ≡ 7 * (r.a + 1)
 unfolding whole_move
 move_count r b o n w h near small k fits =
-    ap (λ (t : Ran). length t.requests) (whole_move r b o n w h near small k fits)
+    ap (λ (t : Ran). length t.requests) (whole_move_lem r b o n w h near small k fits)
     ∙ omega (arith, sevens_length r (flag_in o) b 0 (suc r.a))
