@@ -1,11 +1,12 @@
 #!/bin/sh
-# The command: every subcommand, refusal, complaint and status, byte for byte. Run it after `rt check farmyard tanker drover byhand replay`.
+# The command: every subcommand, refusal, complaint and status, byte for byte. Run it when farmyard, tanker, drover, byhand and replay are proved and built,
+# as `rt ci` leaves them, or `rt run` in the crate's folder.
 set -u
 cd "$(dirname "$0")/.." || exit 2
 root=$(pwd)
 for program in farmyard tanker drover byhand replay; do
-  if [ ! -x "target/bin/$program" ]; then
-    echo "command: target/bin/$program is missing: run 'rt check $program' first"
+  if [ ! -x "crates/$program/out/$program" ]; then
+    echo "command: crates/$program/out/$program is missing: run 'rt run' in crates/$program first"
     exit 2
   fi
 done
@@ -395,10 +396,11 @@ stopped 'TERM to a replay' ' agree, ' "$root/glavorint" replay "$work/feed"
 # ---- no room
 
 complaint "no folder can be made in $work/none"
-TMPDIR=$work/none "$root/glavorint" run "$work/small" $start 4 >"$work/out" 2>"$work/err"
-[ $? = 2 ] || fail 'no folder for the status: not status 2'
-cmp -s "$work/line" "$work/err" || fail "no folder for the status: $(cat "$work/err")"
-passed=$((passed + 1))
+TMPDIR=$work/none "$root/glavorint" replay "$list" >"$work/out" 2>"$work/err"
+[ $? = 2 ] || fail 'no folder for the report: not status 2'
+cmp -s "$work/line" "$work/err" || fail "no folder for the report: $(cat "$work/err")"
+TMPDIR=$work/none "$root/glavorint" run "$work/small" $start 4 >"$work/out" 2>"$work/err" || fail 'no folder for a run, which needs none: refused'
+passed=$((passed + 2))
 
 # ---- from elsewhere
 
@@ -417,20 +419,24 @@ passed=$((passed + 2))
 # ---- proving on first use, by an rt that only says what the real one would
 
 new=$work/new
-mkdir -p "$new/crates" "$new/bin" "$new/path" "$new/tools"
+mkdir -p "$new/crates/tanker/src" "$new/bin" "$new/path" "$new/tools"
 : >"$new/crates.txt"
 cp "$root/glavorint" "$new/glavorint"
-# its programs are scripts, which no emulator runs
-printf '#!/bin/sh\nprogram=$1\nshift\nexec "%s/target/bin/$program" "$@"\n' "$new" >"$new/tools/start"
-chmod +x "$new/tools/start"
-for tool in sh dirname find head tail mkdir cat mv chmod mktemp mkfifo rm sleep setsid; do
+cp "$root/tools/start" "$new/tools/start"
+for tool in sh dirname find head tail mkdir cat mv chmod mktemp mkfifo rm sleep setsid date uname; do
   ! command -v $tool >/dev/null || ln -s "$(command -v $tool)" "$new/path/$tool"
 done
 
+# Seconds are as they come: on standard input the line of a proved crate has N of them.
+timed() {
+  sed 's/^\(proved [a-z_]*\) ([0-9]* s)$/\1 (N s)/'
+}
+
 # first NAME STATUS OUT ERR: the new repository's command on `run`, with no rt but the one in its bin/.
 first() {
-  PATH="$new/bin:$new/path" "$new/glavorint" run >"$work/out" 2>"$work/err"
+  PATH="$new/bin:$new/path" "$new/glavorint" run >"$work/out" 2>"$work/told"
   got=$?
+  timed <"$work/told" >"$work/err"
   [ "$got" = "$2" ] || fail "$1: status $got, not $2: $(cat "$work/err")"
   cmp -s "$3" "$work/out" || fail "$1: not the output expected: $(diff "$3" "$work/out" | head -n 5)"
   cmp -s "$4" "$work/err" || fail "$1: not on standard error as expected: $(diff "$4" "$work/err" | head -n 5)"
@@ -447,16 +453,22 @@ first 'a target that is no folder' 2 "$work/nothing" "$work/line"
 rm "$new/target"
 cat >"$new/bin/rt" <<'END'
 #!/bin/sh
-echo 'rt: words proved (unchanged since it was last proved)'
-echo 'rt: flags proved (5 s)'
-echo 'rt: tanker NOT PROVED (3 s)'
+[ "$*:${PWD##*/}" = run:tanker ] || exit 2
+{
+  echo 'rt: words: begins with what a check kept elsewhere'
+  echo 'rt: chose --jobs 2 for flags'
+  echo 'fn flags::Flags::set: proved'
+  echo 'logic=proved functions=1'
+  echo 'rt: chose --jobs 2 for tanker'
+  echo 'fn tanker::main: not proved'
+} >&2
 exit 1
 END
 begun='glavorint: proving tanker and what it stands on; the first time takes many minutes'
 log=$new/target/glavorint/tanker.log
 {
-  printf '%s\n' "$begun" 'proved flags (5 s)'
-  "$new/bin/rt"
+  printf '%s\n' "$begun" 'proved flags (N s)'
+  (cd "$new/crates/tanker" && "$new/bin/rt" run) 2>&1
   printf '%s\n' 'not proved' "glavorint: tanker isn't proved: $log has what rt says"
 } >"$work/said"
 first 'a proof that fails' 2 "$work/nothing" "$work/said"
@@ -473,31 +485,45 @@ else
 fi
 cat >"$new/bin/rt" <<'END'
 #!/bin/sh
-sleep "${PAUSE:-0}"
-echo 'rt: flags proved (5 s)'
-echo 'rt: tanker proved (31 s)'
-mkdir -p target/bin
-printf '#!/bin/sh\necho ran\nprintf 1 >&3\n' >target/bin/tanker
-chmod +x target/bin/tanker
+{
+  echo 'rt: chose --jobs 2 for flags'
+  sleep "${PAUSE:-0}"
+  echo 'logic=proved functions=1'
+  echo 'rt: chose --jobs 2 for tanker'
+  echo 'logic=proved functions=1'
+} >&2
+mkdir -p out
+printf '#!/bin/sh\necho ran\necho complained >&2\nexit 1\n' >out/tanker
+chmod +x out/tanker
+echo 'rt: running out/tanker; to give it other input, run that file yourself' >&2
+exec out/tanker
 END
 echo ran >"$work/ran"
-printf '%s\n' "$begun" 'proved flags (5 s)' 'proved tanker (31 s)' >"$work/said"
+printf '%s\n' "$begun" 'proved flags (N s)' 'proved tanker (N s)' complained >"$work/said"
+echo complained >"$work/complained"
 first 'a first use' 1 "$work/ran" "$work/said"
-first 'a second use' 1 "$work/ran" "$work/nothing"
-rm -r "$new/target"
+first 'a second use' 1 "$work/ran" "$work/complained"
+rm -r "$new/target" "$new/crates/tanker/out"
 PAUSE=1 PATH="$new/bin:$new/path" "$new/glavorint" run >"$work/beside" 2>&1 &
 beside=$!
 PAUSE=1
 export PAUSE
 first 'two first uses at once' 1 "$work/ran" "$work/said"
 wait "$beside"
-cat "$work/said" "$work/ran" | cmp -s - "$work/beside" || fail "two first uses at once: $(cat "$work/beside")"
+{
+  grep -v complained "$work/said"
+  printf '%s\n' ran complained
+} >"$work/both"
+timed <"$work/beside" | cmp -s "$work/both" - || fail "two first uses at once: $(cat "$work/beside")"
 rm "$new/bin/rt"
-first 'a second use without the toolchain' 1 "$work/ran" "$work/nothing"
-printf '#!/bin/sh\nkill -9 $$\n' >"$new/target/bin/tanker"
+first 'a second use without the toolchain' 1 "$work/ran" "$work/complained"
+printf '#!/bin/sh\nkill -9 $$\n' >"$new/crates/tanker/out/tanker"
 PATH="$new/bin:$new/path" "$new/glavorint" run >"$work/out" 2>"$work/err"
 [ $? = 1 ] || fail 'a program that is killed: not status 1'
 grep -q 'tanker ended without a status (its own was 137)' "$work/err" || fail "a program that is killed: $(cat "$work/err")"
+printf '#!/bin/sh\nexit 7\n' >"$new/crates/tanker/out/tanker"
+complaint 'tanker ended without a status (its own was 7)'
+first 'a program with another status' 1 "$work/nothing" "$work/line"
 passed=$((passed + 1))
 
 echo "command: $passed cases passed"

@@ -1,10 +1,11 @@
 #!/bin/sh
-# Replays wrong lists, and lists at the format's edges, and compares each report byte for byte. Run it after `rt check replay`.
+# Replays wrong lists, and lists at the format's edges, and compares each report byte for byte. Run it when replay is proved and
+# built, as `rt ci` leaves it, or `rt run` in its folder.
 set -u
 cd "$(dirname "$0")/.." || exit 2
 list=crates/replay/data/list.txt
-if [ ! -x target/bin/replay ]; then
-  echo "replay: target/bin/replay is missing: run 'rt check replay' first"
+if [ ! -x crates/replay/out/replay ]; then
+  echo "replay: crates/replay/out/replay is missing: run 'rt run' in crates/replay first"
   exit 2
 fi
 work=$(mktemp -d) || exit 2

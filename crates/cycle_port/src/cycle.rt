@@ -10,16 +10,14 @@ use packed::types::Unpacked;
 use step::{answer, request};
 
 // The edition of the bytes and bits that these functions take and answer.
-#[unsafe(no_mangle)]
-pub extern "C" fn glavorint_edition() -> u32
+pub fn glavorint_edition() -> u32
     ensures { result ≡ 1 }
 {
     1
 }
 
 // What a packed record asks of the bus.
-#[unsafe(no_mangle)]
-pub extern "C" fn glavorint_request(rec: &[u8]) -> u64
+pub fn glavorint_request(rec: &[u8]) -> u64
     ensures { result ≡ request_number rec.now }
 {
     let u = unpack(rec);
@@ -30,8 +28,7 @@ pub extern "C" fn glavorint_request(rec: &[u8]) -> u64
 }
 
 // The record after the answered byte, in place of the one that was lent; a refused one stays.
-#[unsafe(no_mangle)]
-pub extern "C" fn glavorint_answer(rec: &mut [u8], byte: u8) -> u8
+pub fn glavorint_answer(rec: &mut [u8], byte: u8) -> u8
     ensures { (result ≡ (answer_bytes rec.old byte).number) × (rec.new ≡ (answer_bytes rec.old byte).bytes) }
 {
     let u = unpack(rec);

@@ -21,8 +21,7 @@ fn unfit_by(len: usize, budget: u32) -> u8
 }
 
 // At most `budget` cycles; the record that they come to takes the place of the lent one.
-#[unsafe(no_mangle)]
-pub extern "C" fn glavorint_run(rec: &mut [u8], mem: &mut [u8], budget: u32) -> u64
+pub fn glavorint_run(rec: &mut [u8], mem: &mut [u8], budget: u32) -> u64
     ensures { (result ≡ (run_bytes rec.old mem.old budget).answer)
         × (rec.new ≡ (run_bytes rec.old mem.old budget).bytes)
         × (mem.new ≡ (run_bytes rec.old mem.old budget).mem) }

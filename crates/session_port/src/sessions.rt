@@ -87,8 +87,7 @@ fn put_session(bytes: &mut [u8], s: Session)
 }
 
 // What a session asks of the bus.
-#[unsafe(no_mangle)]
-pub extern "C" fn glavorint_session_request(session: &[u8]) -> u64
+pub fn glavorint_session_request(session: &[u8]) -> u64
     ensures { result ≡ session_request session.now }
 {
     let o = session_of(session);
@@ -99,8 +98,7 @@ pub extern "C" fn glavorint_session_request(session: &[u8]) -> u64
 }
 
 // The session after the answered byte, in place of the one that was lent; a refused one stays.
-#[unsafe(no_mangle)]
-pub extern "C" fn glavorint_session_answer(session: &mut [u8], byte: u8) -> u8
+pub fn glavorint_session_answer(session: &mut [u8], byte: u8) -> u8
     ensures { (result ≡ (session_answer session.old byte).number) × (session.new ≡ (session_answer session.old byte).bytes) }
 {
     let o = session_of(session);

@@ -46,8 +46,7 @@ fn unfit_by(len: usize, text: usize, before: u32, budget: u32) -> u8
 }
 
 // At most `budget` cycles, `before` having been done, with a line for each in the lent text.
-#[unsafe(no_mangle)]
-pub extern "C" fn glavorint_trace(
+pub fn glavorint_trace(
     rec: &mut [u8],
     mem: &mut [u8],
     text: &mut [u8],

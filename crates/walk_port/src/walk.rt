@@ -7,8 +7,7 @@ use numbers::numbers::run_number;
 use session_port::sessions::cycles_of;
 
 // The session after a cycle over a lent memory.
-#[unsafe(no_mangle)]
-pub extern "C" fn glavorint_session_cycle(session: &mut [u8], mem: &mut [u8]) -> u8
+pub fn glavorint_session_cycle(session: &mut [u8], mem: &mut [u8]) -> u8
     ensures { (result ≡ (session_cycle session.old mem.old).number)
         × (session.new ≡ (session_cycle session.old mem.old).bytes)
         × (mem.new ≡ (session_cycle session.old mem.old).mem) }
@@ -18,8 +17,7 @@ pub extern "C" fn glavorint_session_cycle(session: &mut [u8], mem: &mut [u8]) ->
 }
 
 // The session after at most `count` cycles, up to the first that is refused.
-#[unsafe(no_mangle)]
-pub extern "C" fn glavorint_session_cycles(session: &mut [u8], mem: &mut [u8], count: u32) -> u64
+pub fn glavorint_session_cycles(session: &mut [u8], mem: &mut [u8], count: u32) -> u64
     ensures { (result ≡ cycles_number (session_cycles session.old mem.old count))
         × (session.new ≡ (session_cycles session.old mem.old count).bytes)
         × (mem.new ≡ (session_cycles session.old mem.old count).mem) }
