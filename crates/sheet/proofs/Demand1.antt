@@ -32,7 +32,7 @@ use Rattle.cycles.specs.declared.types.Micro.TheVariants.{Refuse, Fetch, Held}
 use Rattle.bus.specs.Bus.{ask_of}
 use Rattle.mid.specs.Mid.{mid_after}
 use Rattle.act.specs.Act.{regs_after, way_of, act_of}
-use Rattle.step.specs.Answers.{answerNumber, askedNumber, askedValues}
+use Rattle.step.specs.Answers.{answer_number, asked_number, asked_values}
 use Rattle.step.specs.Cycle.{micro_of, asked_by, answered_by, request_of, answer_of}
 use Rattle.sheet.proofs.Walk.{and_left, and_right, false_true}
 use Rattle.sheet.proofs.Rows.{writing, deaf_move, deaf_change, deaf_to, fine, silent, in_order, micro_in_order}
@@ -64,18 +64,18 @@ pub demand_1_request : (r : Record) → Question (request_of r)
 demand_1_request r = question r (request_of r) refl
 
 -- In document 01's numbers: 0 for accepted, or 4 to 6.
-numbers : (a : Answer) → Outcome a → (answerNumber a ≡ 0) ⊎ ((4 ≤ answerNumber a) × (answerNumber a ≤ 6))
-numbers a (accepted s e) = inl (ap answerNumber e)
+numbers : (a : Answer) → Outcome a → (answer_number a ≡ 0) ⊎ ((4 ≤ answer_number a) × (answer_number a ≤ 6))
+numbers a (accepted s e) = inl (ap answer_number e)
 numbers a (refused n e p q) =
-    inr (subst (λ (x : Answer). (4 ≤ answerNumber x) × (answerNumber x ≤ 6)) (sym e) (p, q))
+    inr (subst (λ (x : Answer). (4 ≤ answer_number x) × (answer_number x ≤ 6)) (sym e) (p, q))
 
-pub demand_1_numbers : (r : Record) (b : ℕ) → let n : ℕ = answerNumber (answer_of r b) in (n ≡ 0) ⊎ ((4 ≤ n) × (n ≤ 6))
+pub demand_1_numbers : (r : Record) (b : ℕ) → let n : ℕ = answer_number (answer_of r b) in (n ≡ 0) ⊎ ((4 ≤ n) × (n ≤ 6))
 demand_1_numbers r b = numbers (answer_of r b) (demand_1 r b)
 
 -- A request that is made has its four values and the number 0; one that is refused has no values, and 4 to 6.
 abbrev Told : Asked → Type 0
 Told a =
-    ((askedNumber a ≡ 0) × (length (askedValues a) ≡ 4)) ⊎ ((4 ≤ askedNumber a) × (askedNumber a ≤ 6) × (askedValues a ≡ []))
+    ((asked_number a ≡ 0) × (length (asked_values a) ≡ 4)) ⊎ ((4 ≤ asked_number a) × (asked_number a ≤ 6) × (asked_values a ≡ []))
 
 told : (a : Asked) → Question a → Told a
 told a (asked q e) = subst Told (sym e) (inl (refl, refl))
