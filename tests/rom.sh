@@ -23,19 +23,21 @@ listed() {
   }' "$1"
 }
 
-# .. and of the source, whose opcodes have the address and the mnemonic beside them.
+# .. and of the source, whose opcodes have the address and the mnemonic beside them: what a line says is of its last byte.
 laid() {
   awk '
     function flush() { if (at != "") print at bytes " " name }
     /^    0x[0-9A-F][0-9A-F],/ {
-      byte = substr($1, 3, 2)
-      if ($2 == "//") {
-        flush()
-        at = $3
-        bytes = ""
-        name = $4 ($5 == "" ? "" : " " $5)
+      for (said = 1; said <= NF && $said != "//"; said++);
+      for (i = 1; i < said; i++) {
+        if (i == said - 1 && said <= NF) {
+          flush()
+          at = $(said + 1)
+          bytes = ""
+          name = $(said + 2) ($(said + 3) == "" ? "" : " " $(said + 3))
+        }
+        bytes = bytes " " substr($i, 3, 2)
       }
-      bytes = bytes " " byte
     }
     END { flush() }' "$1"
 }
@@ -73,10 +75,10 @@ spoiled() {
 spoiled 'another byte in the listing' 's/^8026  69 01/8026  69 02/' ''
 spoiled 'a row left out of the listing' '/^8004  F8/d' ''
 spoiled 'another byte in the source' '' 's/^    0xFB, /    0xFA, /'
-spoiled 'another operand in the source' '' 's/^    0x2F,$/    0x2E,/'
+spoiled 'another operand in the source' '' 's/^    0xFF, 0x2F, /    0xFF, 0x2E, /'
 spoiled 'another mnemonic in the source' '' 's/ADC #0001/ADC #0010/'
 spoiled 'the same wrong address in both' 's/^8050/8051/' 's/8050 LDY/8051 LDY/'
-spoiled 'the same byte less in both' 's/^8002  C2 30/8002  C2   /' '/^    0x30,$/d'
+spoiled 'the same byte less in both' 's/^8002  C2 30/8002  C2   /' 's/^    0x30, 0xF8, /    0xF8, /'
 
 if [ ! -x crates/farmyard/out/farmyard ]; then
   echo "rom: crates/farmyard/out/farmyard is missing: run 'rt run' in crates/farmyard first"

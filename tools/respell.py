@@ -3,11 +3,12 @@
 
 usage: tools/respell.py      at the top of the repository, once, after the port's own script
 
-A definition or lemma is a name that a file of specs/ or proofs/ declares at its left edge, but for the
-answers in a function's own folder, whose names Rattle makes. Types and modules begin with a capital and
-stay. The names are turned wherever a whole name stands in an .antt file, and in the clauses, the lines
-`ghost use` and the comments of an .rt file; Rust's own text, strings and file names stay. A
-lemma that would have a definition's name gets `_lem` after it. The edits in must-fail/ are turned too.
+A definition or lemma is a name that a file of specs/ or proofs/ declares, but for the answers in a
+function's own folder, whose names Rattle makes. Types and modules begin with a capital and stay, and so
+do the fields of Rattle's own records, which stand behind a dot that follows no module. The names are turned wherever a whole
+name stands in an .antt file, and in the clauses, the lines `ghost use` and the comments of an .rt file;
+Rust's own text, strings and file names stay. A lemma that would have a definition's name gets `_lem`
+after it. The edits in must-fail/ are turned too.
 """
 
 import os
@@ -15,9 +16,7 @@ import re
 import sys
 
 NAME = r"[\w\-'·+]"
-DECLARED = re.compile(r"^(?:(?:abbrev|unfoldable|pub|opaque)\s+)*([^\s:(){}]+)\s*:(?!:)")
-# definitions that have a lemma's name in snake case already
-ALREADY = {"is_move"}
+DECLARED = re.compile(r"^\s*(?:(?:abbrev|unfoldable|pub|opaque)\s+)*([^\s:(){}]+)\s*:(?!:)")
 MADE = ("Proof.antt", "Answers.antt", "Invariants.antt")
 
 
@@ -39,15 +38,18 @@ def snake(name):
 
 
 def declared():
-    found = set()
+    found, of_specs = set(), set()
     for path in files(".antt"):
-        if os.path.basename(path) in MADE:
+        if os.path.basename(path) in MADE and "/proofs/" in path:
             continue
         for line in text_of(path).splitlines():
             m = DECLARED.match(line)
-            if m and m.group(1)[0].islower() and snake(m.group(1)) != m.group(1):
-                found.add(m.group(1))
-    return sorted(found)
+            if m and m.group(1)[0].islower():
+                if "/specs/" in path:
+                    of_specs.add(m.group(1))
+                if snake(m.group(1)) != m.group(1):
+                    found.add(m.group(1))
+    return sorted(found), of_specs
 
 
 def in_source(text, turn):
@@ -59,11 +61,21 @@ def in_source(text, turn):
     return "".join(out)
 
 
-def new_names(names):
+def others_of(text):
+    """The names that a file takes from the library: they stay, though a crate here may have one that is spelt alike."""
+    own = {f"Rattle.{c}." for c in os.listdir("crates")}
+    taken = set()
+    for module, items in re.findall(r"(?m)^use ([^\s{]+)\.\{([^}]*)\}", text):
+        if not any((module + ".").startswith(o) for o in own):
+            taken |= {item.strip() for item in items.split(",")}
+    return taken
+
+
+def new_names(names, of_specs):
     new = {n: snake(n) for n in names}
-    defined = {s for n, s in new.items() if "-" not in n} | ALREADY
+    defined = {snake(n) for n in of_specs} | {s for n, s in new.items() if "-" not in n}
     for n, s in new.items():
-        if "-" in n and s in defined:
+        if "-" in n and n not in of_specs and s in defined:
             new[n] = s + "_lem"
     return new
 
@@ -71,15 +83,25 @@ def new_names(names):
 def main():
     # one lemma had a definition's name in snake case before this
     once = "crates/herdbook/proofs/Once.antt"
-    apart = re.sub(r"(?m)^in_order(?= :| )|(?<== )in_order(?= )", "in_order_lem", text_of(once))
-    with open(once, "w", encoding="utf-8") as f:
-        f.write(apart)
-    names = declared()
-    new = new_names(names)
+    text = text_of(once)
+    if "inOrder" in text:
+        with open(once, "w", encoding="utf-8") as f:
+            f.write(re.sub(r"(?m)^in_order(?= :| )|(?<== )in_order(?= )", "in_order_lem", text))
+    names, of_specs = declared()
+    new = new_names(names, of_specs)
     any_name = re.compile(rf"(?<!{NAME})(?:{'|'.join(re.escape(n) for n in sorted(names, key=len, reverse=True))})(?!{NAME})")
 
     def turn(part):
-        return any_name.sub(lambda m: new[m.group(0)], part)
+        modules = set(re.findall(r"(?m)^use \S+ as (\S+)$", part))
+        others = others_of(part)
+
+        def one(m):
+            if m.group(0) in others:
+                return m.group(0)
+            before = re.search(r"([\w\-'·]+)\.$", part[: m.start()][-80:])
+            return m.group(0) if before and before.group(1) not in modules else new[m.group(0)]
+
+        return any_name.sub(one, part)
 
     for ending in (".antt", ".edit", ".rt"):
         for path in files(ending):

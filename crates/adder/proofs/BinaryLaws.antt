@@ -24,14 +24,14 @@ bit_not false = refl
 
 module _ (a b : ℕ) (c : Bool) (p : a < 256) (q : b < 256) where
   -- the byte with 256 for a carry is the sum
-  pub adc-adds : let s : Sum = adc_of false a b c in s.byte + 256 * bit s.carry ≡ a + b + bit c
+  pub adc_adds : let s : Sum = adc_of false a b c in s.byte + 256 * bit s.carry ≡ a + b + bit c
   unfolding adc_of adc_binary
-  adc-adds = carry_out_lem (plain a b c) (omega (arith, bit_not c))
+  adc_adds = carry_out_lem (plain a b c) (omega (arith, bit_not c))
 
   -- the byte is the difference, with 256 lent for a borrow
-  pub sbc-takes : let s : Sum = sbc_of false a b c in s.byte + b + bit (not c) ≡ a + 256 * bit (not s.carry)
+  pub sbc_takes : let s : Sum = sbc_of false a b c in s.byte + b + bit (not c) ≡ a + 256 * bit (not s.carry)
   unfolding sbc_of adc_binary
-  sbc-takes =
+  sbc_takes =
       let s : ℕ = plain a (complement b) c in
       omega (arith, carry_out_lem s (omega (arith, bit_not c)), bit_not c, bit_not (ltb 255 s))
 

@@ -12,7 +12,7 @@ use Rattle.alu.specs.declared.types.Alu.{Alu}
 use Rattle.alu.specs.declared.types.Alu.TheVariants.{And, Bit, BitImmediate}
 use Rattle.alu.specs.declared.types.Word.{Word}
 use Rattle.alu.specs.Widths.{chain}
-use Rattle.alu.proofs.FlagLaws.{top_of, flag-stays, top-flag, sign-flag, made}
+use Rattle.alu.proofs.FlagLaws.{top_of, flag_stays, top_flag, sign_flag, made}
 use Rattle.alu.proofs.OneByte.{operated_plain}
 use Rattle.alu.proofs.Widths.{and_word, result_zero}
 
@@ -25,16 +25,16 @@ top_quotient (suc n) a p =
 
 -- Z goes from byte to byte as AND's does
 module _ (k : Alu) (law : (first top : Bool) (a b : ℕ) (f : Flags) → (operated k first top a b f).flags.zero ≡ ((first || f.zero) && eqb (bit_and a b) 0)) where
-  as-and : (n : ℕ) (first : Bool) (a b : ℕ) (f g : Flags) → f.zero ≡ g.zero
+  as_and : (n : ℕ) (first : Bool) (a b : ℕ) (f g : Flags) → f.zero ≡ g.zero
       → (chain (operated k) n first a b f).flags.zero ≡ (chain (operated And) n first a b g).flags.zero
   unfolding and_byte nz
-  as-and zero first a b f g e = e
-  as-and (suc n) first a b f g e =
-      as-and n false (a / 256) (b / 256) _ _ (law first (eqb n 0) (a % 256) (b % 256) f ∙ rw e)
+  as_and zero first a b f g e = e
+  as_and (suc n) first a b f g e =
+      as_and n false (a / 256) (b / 256) _ _ (law first (eqb n 0) (a % 256) (b % 256) f ∙ rw e)
 
-  bit-zero : (n : ℕ) (first : Bool) (a b : ℕ) (f : Flags) → a < 256 ^ suc n → b < 256 ^ suc n
+  bit_zero : (n : ℕ) (first : Bool) (a b : ℕ) (f : Flags) → a < 256 ^ suc n → b < 256 ^ suc n
       → (chain (operated k) (suc n) first a b f).flags.zero ≡ ((first || f.zero) && eqb (bit_and a b) 0)
-  bit-zero n first a b f p q = as-and (suc n) first a b f f refl ∙ result_zero And tt n first a b f ∙ rw (and_word (suc n) first a b f p q)
+  bit_zero n first a b f p q = as_and (suc n) first a b f f refl ∙ result_zero And tt n first a b f ∙ rw (and_word (suc n) first a b f p q)
 
 -- of a value that is tested
 pub record Tested (n : ℕ) (first : Bool) (a b : ℕ) (f : Flags) (r : Word) : Type 0 where
@@ -50,13 +50,13 @@ module _ (n : ℕ) (first : Bool) (a b : ℕ) (f : Flags) (p : a < 256 ^ suc n) 
   unfolding bit_byte
   tested = record {
     kept = made (operated Bit) (λ x y. x) refl (λ h k l m s t. refl) (λ first top a b f. refl) (suc n) first a b f p q;
-    zero = bit-zero Bit (λ first top a b f. refl) n first a b f p q;
+    zero = bit_zero Bit (λ first top a b f. refl) n first a b f p q;
     negative =
-        sign-flag (operated Bit) (operated_plain Bit) (λ g. g.negative) (λ x y z. y) f.decimal (λ first a b g s t m. refl) n first a b f p q refl;
+        sign_flag (operated Bit) (operated_plain Bit) (λ g. g.negative) (λ x y z. y) f.decimal (λ first a b g s t m. refl) n first a b f p q refl;
     overflow =
         rw (← (top_quotient n b q))
-        (top-flag (operated Bit) (operated_plain Bit) (λ g. g.overflow) (λ x y z. eqb (y / 64 % 2) 1) f.decimal (λ first a b g s t m. refl) n first a b f refl);
-    carry = flag-stays (operated Bit) (λ g. g.carry) (λ first top a b f. refl) (suc n) first a b f;
+        (top_flag (operated Bit) (operated_plain Bit) (λ g. g.overflow) (λ x y z. eqb (y / 64 % 2) 1) f.decimal (λ first a b g s t m. refl) n first a b f refl);
+    carry = flag_stays (operated Bit) (λ g. g.carry) (λ first top a b f. refl) (suc n) first a b f;
   }
 
 -- of a value that is tested for Z alone
@@ -73,8 +73,8 @@ pub only_zero : (n : ℕ) (first : Bool) (a b : ℕ) (f : Flags) → a < 256 ^ s
 unfolding bit_byte
 only_zero n first a b f p q = record {
   kept = made (operated BitImmediate) (λ x y. x) refl (λ h k l m s t. refl) (λ first top a b f. refl) (suc n) first a b f p q;
-  zero = bit-zero BitImmediate (λ first top a b f. refl) n first a b f p q;
-  negative = flag-stays (operated BitImmediate) (λ g. g.negative) (λ first top a b f. refl) (suc n) first a b f;
-  overflow = flag-stays (operated BitImmediate) (λ g. g.overflow) (λ first top a b f. refl) (suc n) first a b f;
-  carry = flag-stays (operated BitImmediate) (λ g. g.carry) (λ first top a b f. refl) (suc n) first a b f;
+  zero = bit_zero BitImmediate (λ first top a b f. refl) n first a b f p q;
+  negative = flag_stays (operated BitImmediate) (λ g. g.negative) (λ first top a b f. refl) (suc n) first a b f;
+  overflow = flag_stays (operated BitImmediate) (λ g. g.overflow) (λ first top a b f. refl) (suc n) first a b f;
+  carry = flag_stays (operated BitImmediate) (λ g. g.carry) (λ first top a b f. refl) (suc n) first a b f;
 }

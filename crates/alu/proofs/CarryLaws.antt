@@ -19,8 +19,8 @@ module _ {v : ℕ} (w : ℕ) (s : v < 256) where
   pub low_byte : (v + 256 * w) % 256 ≡ v
   low_byte = omega arith
 
-  pub high-bytes : (v + 256 * w) / 256 ≡ w
-  high-bytes = omega arith
+  pub high_bytes : (v + 256 * w) / 256 ≡ w
+  high_bytes = omega arith
 
 -- an equation between operands a and b, a result w, and the carries before and after, at a weight m of the carry after.
 -- It may be told of a byte, or of n bytes; told of a byte and of the bytes above, it holds of all of them.
@@ -45,11 +45,11 @@ module _ (Such : ℕ → Type 0) (base : ℕ) (of : ℕ → ℕ) (Says : Equatio
 
   module _ (fits : (b : ℕ) → Such b → b < 256) (rule : Rule base Says) where
     module _ (n v w : ℕ) (p : Such v) where
-      bytes-joined : Bytes Such n w → Bytes Such (suc n) (v + 256 * w)
-      bytes-joined q = rw (low_byte w (fits v p), high-bytes w (fits v p)) (p, q)
+      bytes_joined : Bytes Such n w → Bytes Such (suc n) (v + 256 * w)
+      bytes_joined q = rw (low_byte w (fits v p), high_bytes w (fits v p)) (p, q)
 
-      worth-joined : worth base of (suc n) (v + 256 * w) ≡ of v + base * worth base of n w
-      worth-joined = rw (low_byte w (fits v p), high-bytes w (fits v p))
+      worth_joined : worth base of (suc n) (v + 256 * w) ≡ of v + base * worth base of n w
+      worth_joined = rw (low_byte w (fits v p), high_bytes w (fits v p))
 
     module _ (d : Bool) (byte : (first top : Bool) → (a b : ℕ) → Flags → Byte)
         (law : (first top : Bool) (a b : ℕ) (f : Flags) → Such a → Such b → f.decimal ≡ d → OfByte d a b f (byte first top a b f)) where
@@ -63,8 +63,8 @@ module _ (Such : ℕ → Type 0) (base : ℕ) (of : ℕ → ℕ) (Says : Equatio
           let t = law first (eqb n 0) (a % 256) (b % 256) f p.0 q.0 m in
           let r = carried n false (a / 256) (b / 256) l.flags p.1 q.1 t.mode in
           record {
-            bytes = bytes-joined n l.byte h.word t.such r.bytes;
-            same = rw (worth-joined n l.byte h.word t.such, pow-succ') (rule.more _ _ _ _ _ _ _ _ _ _ t.same r.same);
+            bytes = bytes_joined n l.byte h.word t.such r.bytes;
+            same = rw (worth_joined n l.byte h.word t.such, pow-succ') (rule.more _ _ _ _ _ _ _ _ _ _ t.same r.same);
           }
 
 -- binary numbers: any byte, worth itself, so that n bytes are worth what they are

@@ -13,7 +13,7 @@ use Rattle.alu.specs.declared.types.Alu.TheVariants.{Cmp, Sbc}
 use Rattle.alu.specs.declared.types.Word.{Word}
 use Rattle.alu.specs.Widths.{chain}
 use Rattle.alu.proofs.CarryLaws.{difference}
-use Rattle.alu.proofs.FlagLaws.{eqb_same, flag-stays, made}
+use Rattle.alu.proofs.FlagLaws.{eqb_same, flag_stays, made}
 use Rattle.alu.proofs.Widths.{sbc_binary, result_zero, result_sign}
 
 -- the flags of a compare that goes on, and those of a difference beside it
@@ -28,9 +28,9 @@ pub record Alike (f g : Flags) : Type 0 where
   pub negative : g.negative ≡ f.negative
 
 module _ (first top : Bool) (a b : ℕ) (f g : Flags) (s : Beside first f g) where
-  byte-beside : Beside false (operated Cmp first top a b f).flags (operated Sbc first top a b g).flags
+  byte_beside : Beside false (operated Cmp first top a b f).flags (operated Sbc first top a b g).flags
   unfolding cmp_byte sbc_byte summed
-  byte-beside = record { mode = s.mode; carry = rw (s.mode, s.carry); zero = rw (s.mode, s.carry, s.zero) }
+  byte_beside = record { mode = s.mode; carry = rw (s.mode, s.carry); zero = rw (s.mode, s.carry, s.zero) }
 
 byte_sign : (first : Bool) (a b : ℕ) (f g : Flags) → Beside first f g
     → (operated Sbc first true a b g).flags.negative ≡ (operated Cmp first true a b f).flags.negative
@@ -41,11 +41,11 @@ byte_sign first a b f g s = rw (s.mode, s.carry)
 alike : (n : ℕ) (first : Bool) (a b : ℕ) (f g : Flags) → Beside first f g
     → Alike (chain (operated Cmp) (suc n) first a b f).flags (chain (operated Sbc) (suc n) first a b g).flags
 alike zero first a b f g s = record {
-  beside = byte-beside first true (a % 256) (b % 256) f g s;
+  beside = byte_beside first true (a % 256) (b % 256) f g s;
   negative = byte_sign first (a % 256) (b % 256) f g s;
 }
 alike (suc n) first a b f g s =
-    alike n false (a / 256) (b / 256) _ _ (byte-beside first (eqb (suc n) 0) (a % 256) (b % 256) f g s)
+    alike n false (a / 256) (b / 256) _ _ (byte_beside first (eqb (suc n) 0) (a % 256) (b % 256) f g s)
 
 -- the register stays
 kept : (n : ℕ) (first : Bool) (a b : ℕ) (f : Flags) → a < 256 ^ n → b < 256 ^ n → (chain (operated Cmp) n first a b f).word ≡ a
@@ -55,7 +55,7 @@ kept = made (operated Cmp) (λ x y. x) refl (λ h k l m s t. refl) (λ first top
 -- and so does V
 same_overflow : (n : ℕ) (first : Bool) (a b : ℕ) (f : Flags) → (chain (operated Cmp) n first a b f).flags.overflow ≡ f.overflow
 unfolding cmp_byte
-same_overflow = flag-stays (operated Cmp) (λ g. g.overflow) (λ first top a b f. refl)
+same_overflow = flag_stays (operated Cmp) (λ g. g.overflow) (λ first top a b f. refl)
 
 -- a difference inside m, with m lent where `t` is false: what it says of the operands
 module _ (m a b w : ℕ) (small : w < m) (fits : b < m) where

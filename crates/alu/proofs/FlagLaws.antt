@@ -11,7 +11,7 @@ use Rattle.flags.specs.declared.Flags.{Flags}
 use Rattle.alu.specs.declared.types.Byte.{Byte}
 use Rattle.alu.specs.declared.types.Word.{Word}
 use Rattle.alu.specs.Widths.{chain}
-use Rattle.alu.proofs.CarryLaws.{low_byte, high-bytes}
+use Rattle.alu.proofs.CarryLaws.{low_byte, high_bytes}
 use Rattle.alu.proofs.OneByte.{Plain}
 
 -- facts that go together have tests that go together
@@ -55,48 +55,48 @@ top_bit (suc n) a p =
 module _ (byte : (first top : Bool) → (a b : ℕ) → Flags → Byte) where
   -- a flag that every byte leaves as it was stays
   module _ (flag : Flags → Bool) (law : (first top : Bool) (a b : ℕ) (f : Flags) → flag (byte first top a b f).flags ≡ flag f) where
-    pub flag-stays : (n : ℕ) (first : Bool) (a b : ℕ) (f : Flags) → flag (chain byte n first a b f).flags ≡ flag f
-    flag-stays zero first a b f = refl
-    flag-stays (suc n) first a b f = flag-stays n false (a / 256) (b / 256) _ ∙ law first (eqb n 0) (a % 256) (b % 256) f
+    pub flag_stays : (n : ℕ) (first : Bool) (a b : ℕ) (f : Flags) → flag (chain byte n first a b f).flags ≡ flag f
+    flag_stays zero first a b f = refl
+    flag_stays (suc n) first a b f = flag_stays n false (a / 256) (b / 256) _ ∙ law first (eqb n 0) (a % 256) (b % 256) f
 
   module _ (plain : Plain byte) where
     -- n bytes are below 256^n
-    pub chain-small : (n : ℕ) (first : Bool) (a b : ℕ) (f : Flags) → (chain byte n first a b f).word < 256 ^ n
-    chain-small zero first a b f = rw pow-zero (omega arith)
-    chain-small (suc n) first a b f =
+    pub chain_small : (n : ℕ) (first : Bool) (a b : ℕ) (f : Flags) → (chain byte n first a b f).word < 256 ^ n
+    chain_small zero first a b f = rw pow-zero (omega arith)
+    chain_small (suc n) first a b f =
         let l : Byte = byte first (eqb n 0) (a % 256) (b % 256) f in
         rw pow-succ' (omega (
           arith,
           plain.small first (eqb n 0) (a % 256) (b % 256) f (omega arith) (omega arith),
-          chain-small n false (a / 256) (b / 256) l.flags,
+          chain_small n false (a / 256) (b / 256) l.flags,
         ))
 
     -- a flag that the top byte sets by the operands' bytes and its own is set by the words' top bytes
     module _ (flag : Flags → Bool) (rule : (a b w : ℕ) → Bool) (d : Bool)
         (law : (first : Bool) (a b : ℕ) (f : Flags) → a < 256 → b < 256 → f.decimal ≡ d
         → flag (byte first true a b f).flags ≡ rule a b (byte first true a b f).byte) where
-      pub top-flag : (n : ℕ) (first : Bool) (a b : ℕ) (f : Flags) → f.decimal ≡ d
+      pub top_flag : (n : ℕ) (first : Bool) (a b : ℕ) (f : Flags) → f.decimal ≡ d
           → let r : Word = chain byte (suc n) first a b f in
           flag r.flags ≡ rule (top_of n a) (top_of n b) (top_of n r.word)
-      top-flag zero first a b f m =
+      top_flag zero first a b f m =
           rw (low_byte 0 (plain.small first true (a % 256) (b % 256) f (omega arith) (omega arith)))
           (law first (a % 256) (b % 256) f (omega arith) (omega arith) m)
-      top-flag (suc n) first a b f m =
+      top_flag (suc n) first a b f m =
           let l : Byte = byte first (eqb (suc n) 0) (a % 256) (b % 256) f in
           let h : Word = chain byte (suc n) false (a / 256) (b / 256) l.flags in
-          rw (high-bytes h.word (plain.small first (eqb (suc n) 0) (a % 256) (b % 256) f (omega arith) (omega arith)))
-          (top-flag n false (a / 256) (b / 256) l.flags (plain.mode first (eqb (suc n) 0) (a % 256) (b % 256) f ∙ m))
+          rw (high_bytes h.word (plain.small first (eqb (suc n) 0) (a % 256) (b % 256) f (omega arith) (omega arith)))
+          (top_flag n false (a / 256) (b / 256) l.flags (plain.mode first (eqb (suc n) 0) (a % 256) (b % 256) f ∙ m))
 
     -- and so by the words' signs, where it looks at signs alone
     module _ (flag : Flags → Bool) (rule : (a b w : Bool) → Bool) (d : Bool)
         (law : (first : Bool) (a b : ℕ) (f : Flags) → a < 256 → b < 256 → f.decimal ≡ d
         → flag (byte first true a b f).flags ≡ rule (leb 128 a) (leb 128 b) (leb 128 (byte first true a b f).byte)) where
-      pub sign-flag : (n : ℕ) (first : Bool) (a b : ℕ) (f : Flags) → a < 256 ^ suc n → b < 256 ^ suc n → f.decimal ≡ d
+      pub sign_flag : (n : ℕ) (first : Bool) (a b : ℕ) (f : Flags) → a < 256 ^ suc n → b < 256 ^ suc n → f.decimal ≡ d
           → let r : Word = chain byte (suc n) first a b f in
           flag r.flags ≡ rule (leb (128 * 256 ^ n) a) (leb (128 * 256 ^ n) b) (leb (128 * 256 ^ n) r.word)
-      sign-flag n first a b f p q m =
-          rw (← (top_bit n a p), ← (top_bit n b q), ← (top_bit n _ (chain-small (suc n) first a b f)))
-          (top-flag flag (λ x y z. rule (leb 128 x) (leb 128 y) (leb 128 z)) d law n first a b f m)
+      sign_flag n first a b f p q m =
+          rw (← (top_bit n a p), ← (top_bit n b q), ← (top_bit n _ (chain_small (suc n) first a b f)))
+          (top_flag flag (λ x y z. rule (leb 128 x) (leb 128 y) (leb 128 z)) d law n first a b f m)
 
   -- Z of the bytes is Z of the word
   module _ (law : (first top : Bool) (a b : ℕ) (f : Flags)

@@ -9,14 +9,14 @@ use borrow.Author.Tests.{leb-true, leb-false, eqb-true, eqb-false}
 use Rattle.words.specs.Words.{pick, bit}
 use Rattle.flags.specs.declared.Flags.{Flags}
 use Rattle.adder.specs.Adder.{adc_of}
-use Rattle.adder.proofs.BinaryLaws.{adc-adds, bit_not}
+use Rattle.adder.proofs.BinaryLaws.{adc_adds, bit_not}
 use Rattle.alu.specs.Alu.{left_byte, right_byte, step_byte, nz, shifted, from_top}
 use Rattle.alu.specs.declared.types.Shift.{Shift}
 use Rattle.alu.specs.declared.types.Byte.{Byte}
 use Rattle.alu.specs.declared.types.Word.{Word}
 use Rattle.alu.specs.Widths.{lefts, rights, through}
 use Rattle.alu.proofs.CarryLaws.{Equation, Rule, OfByte, Any, itself, Binary, binary, wrapped, difference}
-use Rattle.alu.proofs.FlagLaws.{leb_same, zero_joined, sign-flag, zero_flag}
+use Rattle.alu.proofs.FlagLaws.{leb_same, zero_joined, sign_flag, zero_flag}
 use Rattle.alu.proofs.OneByte.{left_small, step_small, shifted_small, shown, shifted_plain}
 
 -- the carry comes in at the low end and what the word can't hold goes out
@@ -40,9 +40,9 @@ lowered : Rule 256 Lowered
 lowered = record { none = λ c. omega arith; more = λ m a b w a' b' w' c d e s t. omega arith }
 
 module _ (d first top : Bool) (a b : ℕ) (f : Flags) (p : a < 256) (q : b < 256) (m : f.decimal ≡ d) where
-  left-byte : OfByte Any 256 itself Doubled d a b f (left_byte first top a f)
+  left_byte_lem : OfByte Any 256 itself Doubled d a b f (left_byte first top a f)
   unfolding left_byte nz
-  left-byte = record { such = left_small first top a f p; mode = m; same = go (leb 128 a) refl }
+  left_byte_lem = record { such = left_small first top a f p; mode = m; same = go (leb 128 a) refl }
     where
       go : (t : Bool) → leb 128 a ≡ t → a % 128 * 2 + bit f.carry + 256 * bit t ≡ 2 * a + bit f.carry
       go true e = omega (arith, leb-true 128 a e)
@@ -50,17 +50,17 @@ module _ (d first top : Bool) (a b : ℕ) (f : Flags) (p : a < 256) (q : b < 256
 
   raised_byte : OfByte Any 256 itself Raised d a b f (step_byte 0 first top a f)
   unfolding step_byte nz
-  raised_byte = record { such = step_small 0 first top a f; mode = m; same = omega (arith, adc-adds a 0 f.carry p (omega arith)) }
+  raised_byte = record { such = step_small 0 first top a f; mode = m; same = omega (arith, adc_adds a 0 f.carry p (omega arith)) }
 
-  lowered-byte : OfByte Any 256 itself Lowered d a b f (step_byte 255 first top a f)
+  lowered_byte : OfByte Any 256 itself Lowered d a b f (step_byte 255 first top a f)
   unfolding step_byte nz
-  lowered-byte = record {
+  lowered_byte = record {
     such = step_small 255 first top a f;
     mode = m;
     same =
         omega (
           arith,
-          adc-adds a 255 f.carry p (omega arith),
+          adc_adds a 255 f.carry p (omega arith),
           bit_not f.carry,
           bit_not (adc_of false a 255 f.carry).carry,
         );
@@ -72,27 +72,27 @@ positive n = one-le-pow n 256 (omega arith)
 -- what holds of a byte, whatever D, holds of n bytes from the low end
 module _ (Says : Equation) (rule : Rule 256 Says) (byte : (first top : Bool) → ℕ → Flags → Byte)
     (law : (d first top : Bool) (a b : ℕ) (f : Flags) → a < 256 → b < 256 → f.decimal ≡ d → OfByte Any 256 itself Says d a b f (byte first top a f)) where
-  from-below : (n : ℕ) (first : Bool) (v : ℕ) (f : Flags) → v < 256 ^ n → Binary Says n v 0 f (lefts byte n first v f)
-  from-below n first v f p =
+  from_below : (n : ℕ) (first : Bool) (v : ℕ) (f : Flags) → v < 256 ^ n → Binary Says n v 0 f (lefts byte n first v f)
+  from_below n first v f p =
       binary Says rule f.decimal (λ first top a b g. byte first top a g) (law f.decimal) n first v 0 f p (positive n) refl
 
 -- ASL and ROL: the word with 256^n for a carry is twice the value and the carry that goes in
 pub left_word : (n : ℕ) (first : Bool) (v : ℕ) (f : Flags) → v < 256 ^ n → Binary Doubled n v 0 f (lefts left_byte n first v f)
-left_word = from-below Doubled doubled left_byte left-byte
+left_word = from_below Doubled doubled left_byte left_byte_lem
 
 module _ (n : ℕ) (first : Bool) (v : ℕ) (f : Flags) (p : v < 256 ^ n) where
   -- INC, with the carry that it goes in with
-  pub inc-word : f.carry ≡ true → (lefts (step_byte 0) n first v f).word ≡ (v + 1) % 256 ^ n
-  inc-word c =
+  pub inc_word : f.carry ≡ true → (lefts (step_byte 0) n first v f).word ≡ (v + 1) % 256 ^ n
+  inc_word c =
       let w : Word = lefts (step_byte 0) n first v f in
-      let r = from-below Raised raised (step_byte 0) raised_byte n first v f p in
+      let r = from_below Raised raised (step_byte 0) raised_byte n first v f p in
       sym (wrapped (256 ^ n) w.word (v + 1) w.flags.carry r.small (omega (arith, r.same, ap bit c)))
 
   -- DEC, with the borrow that it goes in with
-  pub dec-word : f.carry ≡ false → (lefts (step_byte 255) n first v f).word ≡ (v + (256 ^ n - 1)) % 256 ^ n
-  dec-word c =
+  pub dec_word : f.carry ≡ false → (lefts (step_byte 255) n first v f).word ≡ (v + (256 ^ n - 1)) % 256 ^ n
+  dec_word c =
       let w : Word = lefts (step_byte 255) n first v f in
-      let r = from-below Lowered lowered (step_byte 255) lowered-byte n first v f p in
+      let r = from_below Lowered lowered (step_byte 255) lowered_byte n first v f p in
       let e : w.word + 1 ≡ v + 256 ^ n * bit (not w.flags.carry) = omega (arith, r.same, ap (λ (t : Bool). bit (not t)) c) in
       sym (difference (256 ^ n) v 1 w.word w.flags.carry r.small (positive n) e)
 
@@ -122,16 +122,16 @@ right_word (suc n) first v f p =
 
 -- ---- Z and N, from either end
 module _ (k : Shift) where
-  pub right-below : (n : ℕ) (first : Bool) (v : ℕ) (f : Flags) → v < 256 ^ n → (rights (shifted k) n first v f).word < 256 ^ n
-  right-below zero first v f p = rw pow-zero (omega arith)
-  right-below (suc n) first v f p =
+  pub right_below : (n : ℕ) (first : Bool) (v : ℕ) (f : Flags) → v < 256 ^ n → (rights (shifted k) n first v f).word < 256 ^ n
+  right_below zero first v f p = rw pow-zero (omega arith)
+  right_below (suc n) first v f p =
       let top : v / 256 ^ n < 256 = (div-lt_iff_lt-mul (positive n)).1 (rw pow-succ' at p) in
       let h : Byte = shifted k first first (v / 256 ^ n) f in
       rw pow-succ'
       (omega (
         arith,
         mul-le-mul_left (256 ^ n) (shifted_small k first first (v / 256 ^ n) f top),
-        right-below n false (v % 256 ^ n) h.flags (mod-lt v (positive n)),
+        right_below n false (v % 256 ^ n) h.flags (mod-lt v (positive n)),
       ))
 
   right_zero : (n : ℕ) (first : Bool) (v : ℕ) (f : Flags)
@@ -144,40 +144,40 @@ module _ (k : Shift) where
       ∙ rw ((shown k first first (v / 256 ^ suc n) f).zero, and_assoc, and_comm (eqb h.byte 0) (eqb l.word 0))
       (ap (λ (t : Bool). (first || f.zero) && t) (zero_joined (256 ^ suc n) l.word h.byte (positive (suc n))))
 
-  right-keeps : (n : ℕ) (v : ℕ) (f : Flags) → (rights (shifted k) n false v f).flags.negative ≡ f.negative
-  right-keeps zero v f = refl
-  right-keeps (suc n) v f = right-keeps n (v % 256 ^ n) _ ∙ (shown k false false (v / 256 ^ n) f).sign
+  right_keeps : (n : ℕ) (v : ℕ) (f : Flags) → (rights (shifted k) n false v f).flags.negative ≡ f.negative
+  right_keeps zero v f = refl
+  right_keeps (suc n) v f = right_keeps n (v % 256 ^ n) _ ∙ (shown k false false (v / 256 ^ n) f).sign
 
-  right-sign : (n v : ℕ) (f : Flags) → v < 256 ^ suc n
+  right_sign : (n v : ℕ) (f : Flags) → v < 256 ^ suc n
       → let r : Word = rights (shifted k) (suc n) true v f in r.flags.negative ≡ leb (128 * 256 ^ n) r.word
-  right-sign n v f p =
+  right_sign n v f p =
       let h : Byte = shifted k true true (v / 256 ^ n) f in
       let l : Word = rights (shifted k) n false (v % 256 ^ n) h.flags in
-      let small : l.word < 256 ^ n = right-below n false (v % 256 ^ n) h.flags (mod-lt v (positive n)) in
-      right-keeps n (v % 256 ^ n) h.flags
+      let small : l.word < 256 ^ n = right_below n false (v % 256 ^ n) h.flags (mod-lt v (positive n)) in
+      right_keeps n (v % 256 ^ n) h.flags
       ∙ (shown k true true (v / 256 ^ n) f).sign
       ∙ leb_same 128 h.byte (128 * 256 ^ n) (l.word + 256 ^ n * h.byte)
       (λ e. omega (arith, mul-le-mul_left (256 ^ n) e))
       (λ e. omega (arith, mul-le-mul_left (256 ^ n) e))
 
   -- of a word that is shifted or stepped, as of any result
-  pub through-zero : (n v : ℕ) (f : Flags) → let r : Word = through k (suc n) v f in r.flags.zero ≡ eqb r.word 0
-  through-zero n v f = go (from_top k)
+  pub through_zero : (n v : ℕ) (f : Flags) → let r : Word = through k (suc n) v f in r.flags.zero ≡ eqb r.word 0
+  through_zero n v f = go (from_top k)
     where
       go : (t : Bool) → let r : Word = pick t (rights (shifted k) (suc n) true v f) (lefts (shifted k) (suc n) true v f) in
           r.flags.zero ≡ eqb r.word 0
       go true = right_zero n true v f
       go false = zero_flag (λ first top a b g. shifted k first top a g) (λ first top a b g. (shown k first top a g).zero) n true v 0 f
 
-  pub through-sign : (n v : ℕ) (f : Flags) → v < 256 ^ suc n → let r : Word = through k (suc n) v f in r.flags.negative ≡ leb (128 * 256 ^ n) r.word
-  through-sign n v f p = go (from_top k)
+  pub through_sign : (n v : ℕ) (f : Flags) → v < 256 ^ suc n → let r : Word = through k (suc n) v f in r.flags.negative ≡ leb (128 * 256 ^ n) r.word
+  through_sign n v f p = go (from_top k)
     where
       byte : (first top : Bool) → (a b : ℕ) → Flags → Byte
       byte first top a b g = shifted k first top a g
 
       go : (t : Bool) → let r : Word = pick t (rights (shifted k) (suc n) true v f) (lefts (shifted k) (suc n) true v f) in
           r.flags.negative ≡ leb (128 * 256 ^ n) r.word
-      go true = right-sign n v f p
+      go true = right_sign n v f p
       go false =
-          sign-flag byte (shifted_plain k) (λ g. g.negative) (λ x y z. z) f.decimal (λ first a b g s t m. (shown k first true a g).sign)
+          sign_flag byte (shifted_plain k) (λ g. g.negative) (λ x y z. z) f.decimal (λ first a b g s t m. (shown k first true a g).sign)
           n true v 0 f p (positive (suc n)) refl

@@ -14,10 +14,10 @@ use Rattle.alu.specs.declared.types.Shift.TheVariants.{Asl, Rol, Lsr, Ror, Inc, 
 use Rattle.alu.specs.declared.types.Byte.{Byte}
 use Rattle.alu.specs.declared.types.Word.{Word}
 use Rattle.alu.specs.Widths.{lefts, rights, through}
-use Rattle.alu.proofs.At8And16.{above, low_part, low-above, high-above}
-use Rattle.alu.proofs.FlagLaws.{chain-small}
+use Rattle.alu.proofs.At8And16.{above, low_part, low_above, high_above}
+use Rattle.alu.proofs.FlagLaws.{chain_small}
 use Rattle.alu.proofs.OneByte.{shifted_small, shifted_plain}
-use Rattle.alu.proofs.Shifting.{left_word, right_word, inc-word, dec-word, right-below, through-zero, through-sign}
+use Rattle.alu.proofs.Shifting.{left_word, right_word, inc_word, dec_word, right_below, through_zero, through_sign}
 
 -- both bytes and one byte, from the end at which the carry goes in
 module _ (k : Shift) (v : ℕ) where
@@ -42,8 +42,8 @@ module _ (k : Shift) (v : ℕ) where
   one false g = let low : v % 256 % 256 ≡ v % 256 = omega arith in rw (low, add-zero)
 
   small : (t : Bool) (g : Flags) → (pick t (rights (shifted k) 1 true (v % 256) g) (lefts (shifted k) 1 true (v % 256) g)).word < 256
-  small true g = right-below k 1 true (v % 256) g (omega arith)
-  small false g = chain-small (λ first top a b f. shifted k first top a f) (shifted_plain k) 1 true (v % 256) 0 g
+  small true g = right_below k 1 true (v % 256) g (omega arith)
+  small false g = chain_small (λ first top a b f. shifted k first top a f) (shifted_plain k) 1 true (v % 256) 0 g
 
 module _ (k : Shift) (v : ℕ) (f : Flags) where
   -- the flags with the carry that goes in
@@ -51,88 +51,88 @@ module _ (k : Shift) (v : ℕ) (f : Flags) where
   into = with_carry (carry_in k f.carry) f
 
   -- 16 bits are two bytes
-  pub shifted-16 : v < 65536 → shifted_at k true v f ≡ ending k f.carry (through k 2 v into)
-  shifted-16 p = ap (ending k f.carry) (both k v (from_top k) into p)
+  pub shifted_16 : v < 65536 → shifted_at k true v f ≡ ending k f.carry (through k 2 v into)
+  shifted_16 p = ap (ending k f.carry) (both k v (from_top k) into p)
 
   -- 8 bits are one, below the register's high byte
-  pub shifted-8 : shifted_at k false v f ≡ above v (ending k f.carry (through k 1 (v % 256) into))
-  shifted-8 = ap (ending k f.carry) (one k v (from_top k) into)
+  pub shifted_8 : shifted_at k false v f ≡ above v (ending k f.carry (through k 1 (v % 256) into))
+  shifted_8 = ap (ending k f.carry) (one k v (from_top k) into)
 
   -- at 8 bits the high byte stays
-  pub shifted-high : (shifted_at k false v f).word / 256 ≡ v / 256
-  shifted-high =
-      ap (λ (r : Word). r.word / 256) shifted-8 ∙ high-above v (ending k f.carry (through k 1 (v % 256) into)) (small k v (from_top k) into)
+  pub shifted_high : (shifted_at k false v f).word / 256 ≡ v / 256
+  shifted_high =
+      ap (λ (r : Word). r.word / 256) shifted_8 ∙ high_above v (ending k f.carry (through k 1 (v % 256) into)) (small k v (from_top k) into)
 
   -- what holds of the bytes holds at the width
   module _ (Says : Word → Type 0) where
-    pub shift-at-8 : Says (ending k f.carry (through k 1 (v % 256) into)) → Says (low_part (shifted_at k false v f))
-    shift-at-8 =
+    pub shift_at_8 : Says (ending k f.carry (through k 1 (v % 256) into)) → Says (low_part (shifted_at k false v f))
+    shift_at_8 =
         subst Says
-        (sym (ap low_part shifted-8 ∙ low-above v (ending k f.carry (through k 1 (v % 256) into)) (small k v (from_top k) into)))
+        (sym (ap low_part shifted_8 ∙ low_above v (ending k f.carry (through k 1 (v % 256) into)) (small k v (from_top k) into)))
 
-    pub shift-at-16 : v < 65536 → Says (ending k f.carry (through k 2 v into)) → Says (shifted_at k true v f)
-    shift-at-16 p = subst Says (sym (shifted-16 p))
+    pub shift_at_16 : v < 65536 → Says (ending k f.carry (through k 2 v into)) → Says (shifted_at k true v f)
+    shift_at_16 p = subst Says (sym (shifted_16 p))
 
   -- Z and N are those of the result
-  pub shift-result-8 : let r : Word = shifted_at k false v f in (r.flags.zero ≡ eqb (r.word % 256) 0) × (r.flags.negative ≡ leb 128 (r.word % 256))
-  shift-result-8 =
-      shift-at-8 (λ r. (r.flags.zero ≡ eqb r.word 0) × (r.flags.negative ≡ leb 128 r.word))
-      (through-zero k 0 (v % 256) into, through-sign k 0 (v % 256) into (omega arith))
+  pub shift_result_8 : let r : Word = shifted_at k false v f in (r.flags.zero ≡ eqb (r.word % 256) 0) × (r.flags.negative ≡ leb 128 (r.word % 256))
+  shift_result_8 =
+      shift_at_8 (λ r. (r.flags.zero ≡ eqb r.word 0) × (r.flags.negative ≡ leb 128 r.word))
+      (through_zero k 0 (v % 256) into, through_sign k 0 (v % 256) into (omega arith))
 
-  pub shift-result-16 : v < 65536 → let r : Word = shifted_at k true v f in (r.flags.zero ≡ eqb r.word 0) × (r.flags.negative ≡ leb 32768 r.word)
-  shift-result-16 p =
-      shift-at-16 (λ r. (r.flags.zero ≡ eqb r.word 0) × (r.flags.negative ≡ leb 32768 r.word)) p
-      (through-zero k 1 v into, through-sign k 1 v into p)
+  pub shift_result_16 : v < 65536 → let r : Word = shifted_at k true v f in (r.flags.zero ≡ eqb r.word 0) × (r.flags.negative ≡ leb 32768 r.word)
+  shift_result_16 p =
+      shift_at_16 (λ r. (r.flags.zero ≡ eqb r.word 0) × (r.flags.negative ≡ leb 32768 r.word)) p
+      (through_zero k 1 v into, through_sign k 1 v into p)
 
 module _ (v : ℕ) (f : Flags) where
   low : v % 256 < 256
   low = omega arith
 
   -- ASL: twice the value, a bit that goes out is C
-  pub asl-8 : let r : Word = shifted_at Asl false v f in r.word % 256 + 256 * bit r.flags.carry ≡ 2 * (v % 256)
-  asl-8 = shift-at-8 Asl v f (λ r. r.word + 256 * bit r.flags.carry ≡ 2 * (v % 256)) ((left_word 1 true (v % 256) (with_carry false f) low).same ∙ add-zero _)
+  pub asl_8 : let r : Word = shifted_at Asl false v f in r.word % 256 + 256 * bit r.flags.carry ≡ 2 * (v % 256)
+  asl_8 = shift_at_8 Asl v f (λ r. r.word + 256 * bit r.flags.carry ≡ 2 * (v % 256)) ((left_word 1 true (v % 256) (with_carry false f) low).same ∙ add-zero _)
 
   -- ROL: and C goes in below
-  pub rol-8 : let r : Word = shifted_at Rol false v f in r.word % 256 + 256 * bit r.flags.carry ≡ 2 * (v % 256) + bit f.carry
-  rol-8 = shift-at-8 Rol v f (λ r. r.word + 256 * bit r.flags.carry ≡ 2 * (v % 256) + bit f.carry) (left_word 1 true (v % 256) f low).same
+  pub rol_8 : let r : Word = shifted_at Rol false v f in r.word % 256 + 256 * bit r.flags.carry ≡ 2 * (v % 256) + bit f.carry
+  rol_8 = shift_at_8 Rol v f (λ r. r.word + 256 * bit r.flags.carry ≡ 2 * (v % 256) + bit f.carry) (left_word 1 true (v % 256) f low).same
 
   -- LSR: half the value, the bit that goes out is C
-  pub lsr-8 : let r : Word = shifted_at Lsr false v f in 2 * (r.word % 256) + bit r.flags.carry ≡ v % 256
-  lsr-8 = shift-at-8 Lsr v f (λ r. 2 * r.word + bit r.flags.carry ≡ v % 256) (right_word 1 true (v % 256) (with_carry false f) low ∙ add-zero _)
+  pub lsr_8 : let r : Word = shifted_at Lsr false v f in 2 * (r.word % 256) + bit r.flags.carry ≡ v % 256
+  lsr_8 = shift_at_8 Lsr v f (λ r. 2 * r.word + bit r.flags.carry ≡ v % 256) (right_word 1 true (v % 256) (with_carry false f) low ∙ add-zero _)
 
   -- ROR: and C goes in at the top
-  pub ror-8 : let r : Word = shifted_at Ror false v f in 2 * (r.word % 256) + bit r.flags.carry ≡ v % 256 + 256 * bit f.carry
-  ror-8 = shift-at-8 Ror v f (λ r. 2 * r.word + bit r.flags.carry ≡ v % 256 + 256 * bit f.carry) (right_word 1 true (v % 256) f low)
+  pub ror_8 : let r : Word = shifted_at Ror false v f in 2 * (r.word % 256) + bit r.flags.carry ≡ v % 256 + 256 * bit f.carry
+  ror_8 = shift_at_8 Ror v f (λ r. 2 * r.word + bit r.flags.carry ≡ v % 256 + 256 * bit f.carry) (right_word 1 true (v % 256) f low)
 
   -- INC: one more, and C stays
-  pub inc-8 : let r : Word = shifted_at Inc false v f in (r.word % 256 ≡ (v % 256 + 1) % 256) × (r.flags.carry ≡ f.carry)
-  inc-8 = shift-at-8 Inc v f (λ r. (r.word ≡ (v % 256 + 1) % 256) × (r.flags.carry ≡ f.carry)) (inc-word 1 true (v % 256) (with_carry true f) low refl, refl)
+  pub inc_8 : let r : Word = shifted_at Inc false v f in (r.word % 256 ≡ (v % 256 + 1) % 256) × (r.flags.carry ≡ f.carry)
+  inc_8 = shift_at_8 Inc v f (λ r. (r.word ≡ (v % 256 + 1) % 256) × (r.flags.carry ≡ f.carry)) (inc_word 1 true (v % 256) (with_carry true f) low refl, refl)
 
   -- DEC: one less, and C stays
-  pub dec-8 : let r : Word = shifted_at Dec false v f in (r.word % 256 ≡ (v % 256 + 255) % 256) × (r.flags.carry ≡ f.carry)
-  dec-8 = shift-at-8 Dec v f (λ r. (r.word ≡ (v % 256 + 255) % 256) × (r.flags.carry ≡ f.carry)) (dec-word 1 true (v % 256) (with_carry false f) low refl, refl)
+  pub dec_8 : let r : Word = shifted_at Dec false v f in (r.word % 256 ≡ (v % 256 + 255) % 256) × (r.flags.carry ≡ f.carry)
+  dec_8 = shift_at_8 Dec v f (λ r. (r.word ≡ (v % 256 + 255) % 256) × (r.flags.carry ≡ f.carry)) (dec_word 1 true (v % 256) (with_carry false f) low refl, refl)
 
   module _ (p : v < 65536) where
     -- ASL: twice the value, a bit that goes out is C
-    pub asl-16 : let r : Word = shifted_at Asl true v f in r.word + 65536 * bit r.flags.carry ≡ 2 * v
-    asl-16 = shift-at-16 Asl v f (λ r. r.word + 65536 * bit r.flags.carry ≡ 2 * v) p ((left_word 2 true v (with_carry false f) p).same ∙ add-zero _)
+    pub asl_16 : let r : Word = shifted_at Asl true v f in r.word + 65536 * bit r.flags.carry ≡ 2 * v
+    asl_16 = shift_at_16 Asl v f (λ r. r.word + 65536 * bit r.flags.carry ≡ 2 * v) p ((left_word 2 true v (with_carry false f) p).same ∙ add-zero _)
 
     -- ROL: and C goes in below
-    pub rol-16 : let r : Word = shifted_at Rol true v f in r.word + 65536 * bit r.flags.carry ≡ 2 * v + bit f.carry
-    rol-16 = shift-at-16 Rol v f (λ r. r.word + 65536 * bit r.flags.carry ≡ 2 * v + bit f.carry) p (left_word 2 true v f p).same
+    pub rol_16 : let r : Word = shifted_at Rol true v f in r.word + 65536 * bit r.flags.carry ≡ 2 * v + bit f.carry
+    rol_16 = shift_at_16 Rol v f (λ r. r.word + 65536 * bit r.flags.carry ≡ 2 * v + bit f.carry) p (left_word 2 true v f p).same
 
     -- LSR: half the value, the bit that goes out is C
-    pub lsr-16 : let r : Word = shifted_at Lsr true v f in 2 * r.word + bit r.flags.carry ≡ v
-    lsr-16 = shift-at-16 Lsr v f (λ r. 2 * r.word + bit r.flags.carry ≡ v) p (right_word 2 true v (with_carry false f) p ∙ add-zero _)
+    pub lsr_16 : let r : Word = shifted_at Lsr true v f in 2 * r.word + bit r.flags.carry ≡ v
+    lsr_16 = shift_at_16 Lsr v f (λ r. 2 * r.word + bit r.flags.carry ≡ v) p (right_word 2 true v (with_carry false f) p ∙ add-zero _)
 
     -- ROR: and C goes in at the top
-    pub ror-16 : let r : Word = shifted_at Ror true v f in 2 * r.word + bit r.flags.carry ≡ v + 65536 * bit f.carry
-    ror-16 = shift-at-16 Ror v f (λ r. 2 * r.word + bit r.flags.carry ≡ v + 65536 * bit f.carry) p (right_word 2 true v f p)
+    pub ror_16 : let r : Word = shifted_at Ror true v f in 2 * r.word + bit r.flags.carry ≡ v + 65536 * bit f.carry
+    ror_16 = shift_at_16 Ror v f (λ r. 2 * r.word + bit r.flags.carry ≡ v + 65536 * bit f.carry) p (right_word 2 true v f p)
 
     -- INC: one more, and C stays
-    pub inc-16 : let r : Word = shifted_at Inc true v f in (r.word ≡ (v + 1) % 65536) × (r.flags.carry ≡ f.carry)
-    inc-16 = shift-at-16 Inc v f (λ r. (r.word ≡ (v + 1) % 65536) × (r.flags.carry ≡ f.carry)) p (inc-word 2 true v (with_carry true f) p refl, refl)
+    pub inc_16 : let r : Word = shifted_at Inc true v f in (r.word ≡ (v + 1) % 65536) × (r.flags.carry ≡ f.carry)
+    inc_16 = shift_at_16 Inc v f (λ r. (r.word ≡ (v + 1) % 65536) × (r.flags.carry ≡ f.carry)) p (inc_word 2 true v (with_carry true f) p refl, refl)
 
     -- DEC: one less, and C stays
-    pub dec-16 : let r : Word = shifted_at Dec true v f in (r.word ≡ (v + 65535) % 65536) × (r.flags.carry ≡ f.carry)
-    dec-16 = shift-at-16 Dec v f (λ r. (r.word ≡ (v + 65535) % 65536) × (r.flags.carry ≡ f.carry)) p (dec-word 2 true v (with_carry false f) p refl, refl)
+    pub dec_16 : let r : Word = shifted_at Dec true v f in (r.word ≡ (v + 65535) % 65536) × (r.flags.carry ≡ f.carry)
+    dec_16 = shift_at_16 Dec v f (λ r. (r.word ≡ (v + 65535) % 65536) × (r.flags.carry ≡ f.carry)) p (dec_word 2 true v (with_carry false f) p refl, refl)

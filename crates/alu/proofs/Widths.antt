@@ -1,5 +1,5 @@
 -- Each operation over n bytes: ADC and SBC, binary on any bytes and decimal on digits; the logical ones; N, V and Z.
-use Prim.Native.Nat.{ℕ, zero, suc, ◌+◌, ◌*◌, ◌^◌, ◌<◌}
+use Prim.Native.Nat.{ℕ, suc, ◌+◌, ◌*◌, ◌^◌, ◌<◌}
 use mathlib.Core.Path.{◌≡◌, refl, ap, ◌∙◌}
 use mathlib.Core.Bool.{Bool, true, false, not, ◌&&◌, ◌||◌, beq}
 use native.Mathlib.Omega.{arith}
@@ -10,7 +10,7 @@ use Rattle.flags.specs.Flags.{set_nvzc}
 use Rattle.flags.specs.declared.Flags.{Flags}
 use Rattle.adder.specs.Adder.{adc_of, sbc_of, adc_binary}
 use Rattle.adder.specs.Digits.{Pair, value_of, Digits}
-use Rattle.adder.proofs.BinaryLaws.{adc-adds, sbc-takes, sign_complement}
+use Rattle.adder.proofs.BinaryLaws.{adc_adds, sbc_takes, sign_complement}
 use Rattle.adder.proofs.DigitLaws.{adc_digits, sbc_digits}
 use Rattle.alu.specs.Alu.{adc_byte, sbc_byte, and_byte, ora_byte, eor_byte, load_byte, nz, summed, operated}
 use Rattle.alu.specs.declared.types.Alu.{Alu}
@@ -19,7 +19,7 @@ use Rattle.alu.specs.declared.types.Byte.{Byte}
 use Rattle.alu.specs.declared.types.Word.{Word}
 use Rattle.alu.specs.Widths.{chain}
 use Rattle.alu.proofs.CarryLaws.{Equation, Rule, OfByte, OfBytes, carried, Any, itself, Binary, binary}
-use Rattle.alu.proofs.FlagLaws.{flag-stays, top_bit, chain-small, top-flag, sign-flag, zero_flag, made}
+use Rattle.alu.proofs.FlagLaws.{flag_stays, top_bit, chain_small, top_flag, sign_flag, zero_flag, made}
 use Rattle.alu.proofs.OneByte.{operated_small, operated_plain, writes, tells}
 
 -- a sum: the carry is what the bytes can't hold
@@ -44,22 +44,22 @@ taken base = record {
 
 module _ (first top : Bool) (a b : ℕ) (f : Flags) where
   module _ (p : a < 256) (q : b < 256) (m : f.decimal ≡ false) where
-    adc-byte : OfByte Any 256 itself Added false a b f (operated Adc first top a b f)
+    adc_byte_lem : OfByte Any 256 itself Added false a b f (operated Adc first top a b f)
     unfolding adc_byte summed
-    adc-byte = record { such = operated_small Adc first top a b f p q; mode = m; same = rw m (adc-adds a b f.carry p q) }
+    adc_byte_lem = record { such = operated_small Adc first top a b f p q; mode = m; same = rw m (adc_adds a b f.carry p q) }
 
-    sbc-byte : OfByte Any 256 itself Taken false a b f (operated Sbc first top a b f)
+    sbc_byte_lem : OfByte Any 256 itself Taken false a b f (operated Sbc first top a b f)
     unfolding sbc_byte summed
-    sbc-byte = record { such = operated_small Sbc first top a b f p q; mode = m; same = rw m (sbc-takes a b f.carry p q) }
+    sbc_byte_lem = record { such = operated_small Sbc first top a b f p q; mode = m; same = rw m (sbc_takes a b f.carry p q) }
 
   module _ (p : Pair a) (q : Pair b) (m : f.decimal ≡ true) where
-    adc-pair : OfByte Pair 100 value_of Added true a b f (operated Adc first top a b f)
+    adc_pair : OfByte Pair 100 value_of Added true a b f (operated Adc first top a b f)
     unfolding adc_byte summed adc_of
-    adc-pair = let t = adc_digits a b f.carry p q in record { such = rw m t.digits; mode = m; same = rw m t.same }
+    adc_pair = let t = adc_digits a b f.carry p q in record { such = rw m t.digits; mode = m; same = rw m t.same }
 
-    sbc-pair : OfByte Pair 100 value_of Taken true a b f (operated Sbc first top a b f)
+    sbc_pair : OfByte Pair 100 value_of Taken true a b f (operated Sbc first top a b f)
     unfolding sbc_byte summed sbc_of
-    sbc-pair = let t = sbc_digits a b f.carry p q in record { such = rw m t.digits; mode = m; same = rw m t.same }
+    sbc_pair = let t = sbc_digits a b f.carry p q in record { such = rw m t.digits; mode = m; same = rw m t.same }
 
 -- n bytes of digits, with an equation between decimal values
 abbrev pub Decimal : Equation → (n a b : ℕ) → Flags → Word → Type 0
@@ -71,22 +71,22 @@ pair_fits b p = omega arith
 -- binary ADC: the word with 256^n for a carry is the sum
 pub adc_binary_lem : (n : ℕ) (first : Bool) (a b : ℕ) (f : Flags) → a < 256 ^ n → b < 256 ^ n → f.decimal ≡ false
     → Binary Added n a b f (chain (operated Adc) n first a b f)
-adc_binary_lem = binary Added (added 256) false (operated Adc) adc-byte
+adc_binary_lem = binary Added (added 256) false (operated Adc) adc_byte_lem
 
 -- binary SBC: the word is the difference, with 256^n lent for a borrow
 pub sbc_binary : (n : ℕ) (first : Bool) (a b : ℕ) (f : Flags) → a < 256 ^ n → b < 256 ^ n → f.decimal ≡ false
     → Binary Taken n a b f (chain (operated Sbc) n first a b f)
-sbc_binary = binary Taken (taken 256) false (operated Sbc) sbc-byte
+sbc_binary = binary Taken (taken 256) false (operated Sbc) sbc_byte_lem
 
 -- decimal ADC on digits gives digits: their value with 100^n for a carry is the sum
 pub adc_decimal_lem : (n : ℕ) (first : Bool) (a b : ℕ) (f : Flags) → Digits n a → Digits n b → f.decimal ≡ true
     → Decimal Added n a b f (chain (operated Adc) n first a b f)
-adc_decimal_lem = carried Pair 100 value_of Added pair_fits (added 100) true (operated Adc) adc-pair
+adc_decimal_lem = carried Pair 100 value_of Added pair_fits (added 100) true (operated Adc) adc_pair
 
 -- decimal SBC on digits gives digits: their value is the difference, with 100^n lent for a borrow
 pub sbc_decimal_lem : (n : ℕ) (first : Bool) (a b : ℕ) (f : Flags) → Digits n a → Digits n b → f.decimal ≡ true
     → Decimal Taken n a b f (chain (operated Sbc) n first a b f)
-sbc_decimal_lem = carried Pair 100 value_of Taken pair_fits (taken 100) true (operated Sbc) sbc-pair
+sbc_decimal_lem = carried Pair 100 value_of Taken pair_fits (taken 100) true (operated Sbc) sbc_pair
 
 -- ---- Z and N of what is written
 
@@ -99,34 +99,34 @@ result_zero k w = zero_flag (operated k) (tells k w).zero
 pub result_sign : (k : Alu) → T (writes k) → (n : ℕ) (first : Bool) (a b : ℕ) (f : Flags)
     → let r : Word = chain (operated k) (suc n) first a b f in r.flags.negative ≡ leb (128 * 256 ^ n) r.word
 result_sign k w n first a b f =
-    top-flag (operated k) (operated_plain k) (λ g. g.negative) (λ x y z. leb 128 z) f.decimal (λ first a b g p q m. (tells k w).sign first a b g)
+    top_flag (operated k) (operated_plain k) (λ g. g.negative) (λ x y z. leb 128 z) f.decimal (λ first a b g p q m. (tells k w).sign first a b g)
     n first a b f refl
-    ∙ top_bit n _ (chain-small (operated k) (operated_plain k) (suc n) first a b f)
+    ∙ top_bit n _ (chain_small (operated k) (operated_plain k) (suc n) first a b f)
 
 -- ---- V of binary sums: two words of one sign whose sum has the other; a difference is a sum with the other sign
 abbrev pub signs : (a b w : Bool) → Bool
 signs a b w = beq a b && not (beq a w)
 
 module _ (first : Bool) (a b : ℕ) (f : Flags) (p : a < 256) (q : b < 256) (m : f.decimal ≡ false) where
-  adc-sign : let r : Byte = operated Adc first true a b f in r.flags.overflow ≡ signs (leb 128 a) (leb 128 b) (leb 128 r.byte)
+  adc_sign : let r : Byte = operated Adc first true a b f in r.flags.overflow ≡ signs (leb 128 a) (leb 128 b) (leb 128 r.byte)
   unfolding adc_byte summed adc_of adc_binary
-  adc-sign = rw m
+  adc_sign = rw m
 
-  sbc-sign : let r : Byte = operated Sbc first true a b f in r.flags.overflow ≡ signs (leb 128 a) (not (leb 128 b)) (leb 128 r.byte)
+  sbc_sign : let r : Byte = operated Sbc first true a b f in r.flags.overflow ≡ signs (leb 128 a) (not (leb 128 b)) (leb 128 r.byte)
   unfolding sbc_byte summed sbc_of adc_binary
-  sbc-sign = rw (m, sign_complement b q)
+  sbc_sign = rw (m, sign_complement b q)
 
 -- ADC
 pub adc_overflow : (n : ℕ) (first : Bool) (a b : ℕ) (f : Flags) → a < 256 ^ suc n → b < 256 ^ suc n → f.decimal ≡ false
     → let r : Word = chain (operated Adc) (suc n) first a b f in
     r.flags.overflow ≡ signs (leb (128 * 256 ^ n) a) (leb (128 * 256 ^ n) b) (leb (128 * 256 ^ n) r.word)
-adc_overflow = sign-flag (operated Adc) (operated_plain Adc) (λ g. g.overflow) signs false adc-sign
+adc_overflow = sign_flag (operated Adc) (operated_plain Adc) (λ g. g.overflow) signs false adc_sign
 
 -- SBC
 pub sbc_overflow : (n : ℕ) (first : Bool) (a b : ℕ) (f : Flags) → a < 256 ^ suc n → b < 256 ^ suc n → f.decimal ≡ false
     → let r : Word = chain (operated Sbc) (suc n) first a b f in
     r.flags.overflow ≡ signs (leb (128 * 256 ^ n) a) (not (leb (128 * 256 ^ n) b)) (leb (128 * 256 ^ n) r.word)
-sbc_overflow = sign-flag (operated Sbc) (operated_plain Sbc) (λ g. g.overflow) (λ x y z. signs x (not y) z) false sbc-sign
+sbc_overflow = sign_flag (operated Sbc) (operated_plain Sbc) (λ g. g.overflow) (λ x y z. signs x (not y) z) false sbc_sign
 
 -- ---- the logical operations and a load, on words
 module _ (n : ℕ) (first : Bool) (a b : ℕ) (f : Flags) (p : a < 256 ^ n) (q : b < 256 ^ n) where
@@ -136,14 +136,14 @@ module _ (n : ℕ) (first : Bool) (a b : ℕ) (f : Flags) (p : a < 256 ^ n) (q :
   and_word = made (operated And) bit_and refl (and_block 8) (λ first top a b f. refl) n first a b f p q
 
   -- ORA
-  pub ora-word : (chain (operated Ora) n first a b f).word ≡ bit_or a b
+  pub ora_word : (chain (operated Ora) n first a b f).word ≡ bit_or a b
   unfolding ora_byte
-  ora-word = made (operated Ora) bit_or refl (or_block 8) (λ first top a b f. refl) n first a b f p q
+  ora_word = made (operated Ora) bit_or refl (or_block 8) (λ first top a b f. refl) n first a b f p q
 
   -- EOR
-  pub eor-word : (chain (operated Eor) n first a b f).word ≡ bit_xor a b
+  pub eor_word : (chain (operated Eor) n first a b f).word ≡ bit_xor a b
   unfolding eor_byte
-  eor-word = made (operated Eor) bit_xor refl (xor_block 8) (λ first top a b f. refl) n first a b f p q
+  eor_word = made (operated Eor) bit_xor refl (xor_block 8) (λ first top a b f. refl) n first a b f p q
 
   -- a load takes the value as it is
   pub load_word : (chain (operated Load) n first a b f).word ≡ b
@@ -181,6 +181,6 @@ byte_leaves BitImmediate l flag law first top a b f = absurd l
 
 pub leaves : (k : Alu) → T (logical k) → (n : ℕ) (first : Bool) (a b : ℕ) (f : Flags) → Leaves f (chain (operated k) n first a b f)
 leaves k l n first a b f = record {
-  overflow = flag-stays (operated k) (λ g. g.overflow) (byte_leaves k l (λ g. g.overflow) (λ g n z. refl)) n first a b f;
-  carry = flag-stays (operated k) (λ g. g.carry) (byte_leaves k l (λ g. g.carry) (λ g n z. refl)) n first a b f;
+  overflow = flag_stays (operated k) (λ g. g.overflow) (byte_leaves k l (λ g. g.overflow) (λ g n z. refl)) n first a b f;
+  carry = flag_stays (operated k) (λ g. g.carry) (byte_leaves k l (λ g. g.carry) (λ g n z. refl)) n first a b f;
 }

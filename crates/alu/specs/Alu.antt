@@ -1,6 +1,6 @@
 -- Arithmetic and logic: a byte of each operation, then the width by chaining bytes.
 -- `first` says that no byte came before, so that Z starts anew; `top` that this byte has the sign, so that N is its.
-use Rattle.std.specs.Prelude.{ℕ, zero, ◌+◌, ◌*◌, ◌/◌, ◌%◌, Bool, true, false, ◌&&◌, ◌||◌, eqb, leb}
+use Rattle.std.specs.Prelude.{ℕ, ◌+◌, ◌*◌, ◌/◌, ◌%◌, Bool, true, false, ◌&&◌, ◌||◌, eqb, leb}
 use Rattle.std.specs.Int.Bits.{bit_and, bit_or, bit_xor}
 use Rattle.words.specs.Words.{pick, bit, low_of, high_of, word, low_set}
 use Rattle.flags.specs.Flags.{set_nvzc}

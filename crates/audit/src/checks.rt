@@ -30,13 +30,14 @@ fn by_the_table(pulses: u64, idle: u64) -> u64 {
     of_samples(pulses, idle) + 6 * 127 + 73
 }
 
-pub fn check_cycles(cycles: u64, pulses: u64, idle: u64) -> Check {
+pub fn check_cycles(rt: &impl Print, cycles: u64, pulses: u64, idle: u64) -> Check {
     let table = by_the_table(pulses, idle);
     let told = say_form(
+        rt,
         b"  day   cycles # = by the table of instructions #",
         &[cycles, table],
     );
-    say_verdict(told, cycles == table)
+    say_verdict(rt, told, cycles == table)
 }
 
 // The direct page's ten bytes, and 24 at the head of each of the log's two pages.
@@ -58,10 +59,10 @@ fn count_strange(mem: &[u8; 65536], old: &[u8; 65536]) -> u64 {
     n
 }
 
-pub fn check_elsewhere(mem: &[u8; 65536]) -> Check {
+pub fn check_elsewhere(rt: &impl Print, mem: &[u8; 65536]) -> Check {
     let mut old = [0u8; 65536];
     lay(&mut old);
     let n = count_strange(mem, &old);
-    let told = say_form(b"  day   bytes changed outside record and log #", &[n]);
-    say_verdict(told, n == 0)
+    let told = say_form(rt, b"  day   bytes changed outside record and log #", &[n]);
+    say_verdict(rt, told, n == 0)
 }

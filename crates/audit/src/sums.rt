@@ -3,6 +3,7 @@ use crate::meter::{Flow, SAMPLES, count_flow};
 use dairy::entry::{Entry, entry_at, is_figures, place, total};
 use dairy::say::{Check, say, say_form, say_verdict};
 use dairy::yard::{value, word};
+use std::io;
 use std::num::wrapping_add_u64;
 use words::both;
 
@@ -14,7 +15,7 @@ pub struct Sums {
     pub idle: u64,
     pub litres: u64,
     pub agrees: bool,
-    pub told: bool,
+    pub told: io::Result<()>,
 }
 
 fn none_yet() -> Sums {
@@ -24,7 +25,7 @@ fn none_yet() -> Sums {
         idle: 0,
         litres: 0,
         agrees: true,
-        told: true,
+        told: Ok(()),
     }
 }
 
@@ -35,7 +36,7 @@ fn with_delivery(s: Sums, f: Flow, litres: u64, c: Check) -> Sums {
         idle: wrapping_add_u64(s.idle, f.idle),
         litres: wrapping_add_u64(s.litres, litres),
         agrees: both(s.agrees, c.agrees),
-        told: both(s.told, c.told),
+        told: s.told.and(c.told),
     }
 }
 
@@ -44,13 +45,13 @@ fn is_as_counted(e: Entry, f: Flow, round: usize) -> bool {
     both(named, both(is_figures(e), value(e.litres) == f.pulses))
 }
 
-fn say_row(values: &[u64], agrees: bool) -> Check {
-    let told = say_form(b"  ^  pulses @ = log @; so far @ = total @", values);
-    say_verdict(told, agrees)
+fn say_row(rt: &impl Print, values: &[u64], agrees: bool) -> Check {
+    let told = say_form(rt, b"  ^  pulses @ = log @; so far @ = total @", values);
+    say_verdict(rt, told, agrees)
 }
 
 // One delivery: its pulses are the entry's litres, and the litres up to here the entry's total.
-fn add_delivery(mem: &[u8; 65536], i: usize, s: Sums) -> Sums {
+fn add_delivery(rt: &impl Print, mem: &[u8; 65536], i: usize, s: Sums) -> Sums {
     let at = place(i);
     let e = entry_at(mem, at);
     let f = count_flow(mem, s.key);
@@ -58,36 +59,37 @@ fn add_delivery(mem: &[u8; 65536], i: usize, s: Sums) -> Sums {
     let held = total(e.low, e.high);
     let sum = wrapping_add_u64(s.litres, litres);
     let agrees = both(is_as_counted(e, f, i / 3), sum == held);
-    let row = say_row(&[at as u64, f.pulses, litres, sum, held], agrees);
+    let row = say_row(rt, &[at as u64, f.pulses, litres, sum, held], agrees);
     with_delivery(s, f, litres, row)
 }
 
-fn add_deliveries(mem: &[u8; 65536]) -> Sums {
+fn add_deliveries(rt: &impl Print, mem: &[u8; 65536]) -> Sums {
     let mut s = none_yet();
     let mut i: usize = 0;
     while i < 6 {
-        s = add_delivery(mem, i, s);
+        s = add_delivery(rt, mem, i, s);
         i += 1;
     }
     s
 }
 
-fn say_day(s: Sums, held: u64) -> Check {
+fn say_day(rt: &impl Print, s: Sums, held: u64) -> Check {
     let told = say_form(
+        rt,
         b"  day   pulses # = log # = total #",
         &[s.pulses, s.litres, held],
     );
-    say_verdict(told, both(s.pulses == s.litres, s.litres == held))
+    say_verdict(rt, told, both(s.pulses == s.litres, s.litres == held))
 }
 
 // The whole day: all pulses, all litres of the log, and the total that the ROM holds in its direct page.
-pub fn add_day(mem: &[u8; 65536]) -> Sums {
-    let title = say(b"\nThe sums, added again without the chip\n");
-    let s = add_deliveries(mem);
-    let day = say_day(s, total(word(mem, 4), word(mem, 6)));
+pub fn add_day(rt: &impl Print, mem: &[u8; 65536]) -> Sums {
+    let title = say(rt, b"\nThe sums, added again without the chip\n");
+    let s = add_deliveries(rt, mem);
+    let day = say_day(rt, s, total(word(mem, 4), word(mem, 6)));
     Sums {
         agrees: both(s.agrees, day.agrees),
-        told: both(both(title, s.told), day.told),
+        told: title.and(s.told).and(day.told),
         ..s
     }
 }

@@ -9,9 +9,9 @@ use Rattle.alu.specs.Alu.{operated_at, nz, cmp_byte, and_byte, ora_byte, eor_byt
 use Rattle.alu.specs.declared.types.Alu.{Alu}
 use Rattle.alu.specs.declared.types.Alu.TheVariants.{Cmp, And, Ora, Eor, Bit, BitImmediate, Load}
 use Rattle.alu.specs.declared.types.Word.{Word}
-use Rattle.alu.proofs.At8And16.{result-16, cmp-8, cmp-16}
+use Rattle.alu.proofs.At8And16.{result_16, cmp_8, cmp_16}
 use Rattle.alu.proofs.FlagLaws.{leb_same, eqb_same}
-use Rattle.alu.proofs.LogicAt8And16.{and-16, ora-16, eor-16, load-16, bit-16, bit-immediate-16, cmp-kept-8, bit-kept-8, bit-immediate-kept-8}
+use Rattle.alu.proofs.LogicAt8And16.{and_16, ora_16, eor_16, load_16, bit_16, bit_immediate_16, cmp_kept_8, bit_kept_8, bit_immediate_kept_8}
 use Rattle.cpu.specs.Registers.{get}
 use Rattle.cpu.specs.declared.types.Regs.{Regs}
 use Rattle.cpu.specs.declared.types.Reg.{Reg}
@@ -24,8 +24,8 @@ use Rattle.brisk.specs.Whole.{placed, less, compared, tested}
 module _ (make : ℕ → ℕ → ℕ)
     (block : (h k l m : ℕ) → l < 256 → m < 256 → make (h * 256 + l) (k * 256 + m) ≡ make h k * 256 + make l m)
     (small : (a b : ℕ) → a < 256 → b < 256 → make a b < 256) where
-  low-made : (a b : ℕ) → make (a % 256) (b % 256) ≡ make a b % 256
-  low-made a b =
+  low_made : (a b : ℕ) → make (a % 256) (b % 256) ≡ make a b % 256
+  low_made a b =
       let joined = block (a / 256) (b / 256) (a % 256) (b % 256) (omega arith) (omega arith) in
       omega (arith, small (a % 256) (b % 256) (omega arith) (omega arith), rw (div-add-mod' a 256, div-add-mod' b 256) at joined)
 
@@ -42,87 +42,87 @@ no_difference x y p q = omega arith
 
 module _ (a b : ℕ) (f : Flags) (p : a < 65536) (q : b < 65536) where
   -- AND
-  pub and-placed : (wide : Bool) → operated_at And wide a b f ≡ placed wide a (bit_and a b) f
+  pub and_placed : (wide : Bool) → operated_at And wide a b f ≡ placed wide a (bit_and a b) f
   unfolding and_byte nz set_nz
-  and-placed true =
-      let t = result-16 a b f And tt p q in
+  and_placed true =
+      let t = result_16 a b f And tt p q in
       (λ i. result f (operated_at And true a b f).word (t.1 i) (t.0 i))
-      ∙ ap (λ (w : ℕ). result f w (leb 32768 w) (eqb w 0)) (and-16 a b f p q)
-  and-placed false = ap (λ (w : ℕ). result f (low_set a w) (leb 128 w) (eqb w 0)) (low-made bit_and (and_block 8) (and_lt 8) a b)
+      ∙ ap (λ (w : ℕ). result f w (leb 32768 w) (eqb w 0)) (and_16 a b f p q)
+  and_placed false = ap (λ (w : ℕ). result f (low_set a w) (leb 128 w) (eqb w 0)) (low_made bit_and (and_block 8) (and_lt 8) a b)
 
   -- ORA
-  pub ora-placed : (wide : Bool) → operated_at Ora wide a b f ≡ placed wide a (bit_or a b) f
+  pub ora_placed : (wide : Bool) → operated_at Ora wide a b f ≡ placed wide a (bit_or a b) f
   unfolding ora_byte nz set_nz
-  ora-placed true =
-      let t = result-16 a b f Ora tt p q in
+  ora_placed true =
+      let t = result_16 a b f Ora tt p q in
       (λ i. result f (operated_at Ora true a b f).word (t.1 i) (t.0 i))
-      ∙ ap (λ (w : ℕ). result f w (leb 32768 w) (eqb w 0)) (ora-16 a b f p q)
-  ora-placed false = ap (λ (w : ℕ). result f (low_set a w) (leb 128 w) (eqb w 0)) (low-made bit_or (or_block 8) (or_lt 8) a b)
+      ∙ ap (λ (w : ℕ). result f w (leb 32768 w) (eqb w 0)) (ora_16 a b f p q)
+  ora_placed false = ap (λ (w : ℕ). result f (low_set a w) (leb 128 w) (eqb w 0)) (low_made bit_or (or_block 8) (or_lt 8) a b)
 
   -- EOR
-  pub eor-placed : (wide : Bool) → operated_at Eor wide a b f ≡ placed wide a (bit_xor a b) f
+  pub eor_placed : (wide : Bool) → operated_at Eor wide a b f ≡ placed wide a (bit_xor a b) f
   unfolding eor_byte nz set_nz
-  eor-placed true =
-      let t = result-16 a b f Eor tt p q in
+  eor_placed true =
+      let t = result_16 a b f Eor tt p q in
       (λ i. result f (operated_at Eor true a b f).word (t.1 i) (t.0 i))
-      ∙ ap (λ (w : ℕ). result f w (leb 32768 w) (eqb w 0)) (eor-16 a b f p q)
-  eor-placed false = ap (λ (w : ℕ). result f (low_set a w) (leb 128 w) (eqb w 0)) (low-made bit_xor (xor_block 8) (xor_lt 8) a b)
+      ∙ ap (λ (w : ℕ). result f w (leb 32768 w) (eqb w 0)) (eor_16 a b f p q)
+  eor_placed false = ap (λ (w : ℕ). result f (low_set a w) (leb 128 w) (eqb w 0)) (low_made bit_xor (xor_block 8) (xor_lt 8) a b)
 
   -- a load
-  pub load-placed : (wide : Bool) → operated_at Load wide a b f ≡ placed wide a b f
+  pub load_placed : (wide : Bool) → operated_at Load wide a b f ≡ placed wide a b f
   unfolding load_byte nz set_nz
-  load-placed true =
-      let t = result-16 a b f Load tt p q in
+  load_placed true =
+      let t = result_16 a b f Load tt p q in
       (λ i. result f (operated_at Load true a b f).word (t.1 i) (t.0 i))
-      ∙ ap (λ (w : ℕ). result f w (leb 32768 w) (eqb w 0)) (load-16 a b f p q)
-  load-placed false = refl
+      ∙ ap (λ (w : ℕ). result f w (leb 32768 w) (eqb w 0)) (load_16 a b f p q)
+  load_placed false = refl
 
   -- CMP
   pub cmp_compared : (wide : Bool) → operated_at Cmp wide a b f ≡ compared wide a b f
   unfolding cmp_byte set_nz
   cmp_compared true =
-      let t = cmp-16 a b f p q in
+      let t = cmp_16 a b f p q in
       let zero : eqb a b ≡ eqb ((a + (65536 - b)) % 65536) 0 = eqb_same a b ((a + (65536 - b)) % 65536) 0 (omega arith) in
       λ i. record { word = t.kept i; flags = set_nvzc f (t.negative i) (t.overflow i) ((t.zero ∙ zero) i) (t.carry i) }
   cmp_compared false =
-      let t = cmp-8 a b f in
+      let t = cmp_8 a b f in
       let x : ℕ = a % 256 in
       let y : ℕ = b % 256 in
       let same : (x + (256 - y)) % 256 ≡ less x y % 256 = low_less x y (omega arith) (omega arith) in
       let zero : eqb x y ≡ eqb ((x + (256 - y)) % 256) 0 = eqb_same x y ((x + (256 - y)) % 256) 0 (no_difference x y (omega arith) (omega arith)) in
       λ i. record {
-        word = cmp-kept-8 a b f i;
+        word = cmp_kept_8 a b f i;
         flags = set_nvzc f ((t.negative ∙ ap (leb 128) same) i) (t.overflow i) ((t.zero ∙ zero ∙ ap (λ (w : ℕ). eqb w 0) same) i) (t.carry i);
       }
 
   -- BIT
-  pub bit-tested : (wide : Bool) → operated_at Bit wide a b f ≡ tested wide true a b f
+  pub bit_tested : (wide : Bool) → operated_at Bit wide a b f ≡ tested wide true a b f
   unfolding bit_byte set_nz
-  bit-tested true =
-      let t = bit-16 a b f p q in
+  bit_tested true =
+      let t = bit_16 a b f p q in
       let over : b / 256 / 64 % 2 ≡ b / 16384 % 2 = omega arith in
       λ i. record {
         word = t.kept i;
         flags = set_nvzc f (t.negative i) ((t.overflow ∙ ap (λ (x : ℕ). eqb x 1) over) i) (t.zero i) (t.carry i);
       }
-  bit-tested false =
-      let zero = low-made bit_and (and_block 8) (and_lt 8) a b in
+  bit_tested false =
+      let zero = low_made bit_and (and_block 8) (and_lt 8) a b in
       let sign : leb 128 (b % 256) ≡ leb 32768 (b % 256 * 256) = leb_same 128 (b % 256) 32768 (b % 256 * 256) (omega arith) (omega arith) in
       let over : b % 256 / 64 % 2 ≡ b % 256 * 256 / 16384 % 2 = omega arith in
       λ i. record {
-        word = bit-kept-8 a b f i;
+        word = bit_kept_8 a b f i;
         flags = set_nvzc f (sign i) (eqb (over i) 1) (eqb (zero i) 0) f.carry;
       }
 
   -- BIT with its operand in the program
-  pub bit-immediate-tested : (wide : Bool) → operated_at BitImmediate wide a b f ≡ tested wide false a b f
+  pub bit_immediate_tested : (wide : Bool) → operated_at BitImmediate wide a b f ≡ tested wide false a b f
   unfolding bit_byte set_nz
-  bit-immediate-tested true =
-      let t = bit-immediate-16 a b f p q in
+  bit_immediate_tested true =
+      let t = bit_immediate_16 a b f p q in
       λ i. record { word = t.kept i; flags = set_nvzc f f.negative f.overflow (t.zero i) f.carry }
-  bit-immediate-tested false =
-      let zero = low-made bit_and (and_block 8) (and_lt 8) a b in
-      λ i. record { word = bit-immediate-kept-8 a b f i; flags = set_nvzc f f.negative f.overflow (eqb (zero i) 0) f.carry }
+  bit_immediate_tested false =
+      let zero = low_made bit_and (and_block 8) (and_lt 8) a b in
+      λ i. record { word = bit_immediate_kept_8 a b f i; flags = set_nvzc f f.negative f.overflow (eqb (zero i) 0) f.carry }
 
 -- ---- a register's operation by the bytes that were read is the one on their word
 pub effected_at : (k : Alu) (r : Reg) (wide : Bool) (l h : ℕ) (g : Regs) → l < 256

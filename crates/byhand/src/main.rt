@@ -1,114 +1,142 @@
 // A bench session by hand: `byhand A X Y S D PC PBR DBR P E` prints each request and reads the byte that answers it, docs/COMMAND.md.
+#![tactic(auto)]
+
 use gate::say::{complain, end, unread, untold};
 use session_port::sessions::{glavorint_session_answer, glavorint_session_request};
 use stall::request::{lay_front, refusal, writes};
 use stall::{bench, input};
+use std::io;
+use std::process::ExitCode;
 
-// Where a session stands after a turn: before a request to be printed, before one that stands, before one to be printed again after a refused byte.
-const NEXT: u8 = 0;
-
-const STANDS: u8 = 1;
-
-const REFUSED: u8 = 2;
-
-// From here on it has ended: by the bench, by a refusal of its record that is told already, by output or input that failed.
-const DONE: u8 = 3;
-
-const OUTRIGHT: u8 = 4;
-
-const UNTOLD: u8 = 5;
-
-const UNREAD: u8 = 6;
-
-fn after(told: bool, next: u8) -> u8 {
-    if told { next } else { UNTOLD }
+// Where a session stands after a turn.
+#[derive(Drop)]
+enum At {
+    // before a request to be printed, before one that stands, before one to be printed again after a refused byte
+    Next,
+    Stands,
+    Refused,
+    // it has ended: by the bench, by a refusal of its record that is told already, by output or input that failed
+    Done,
+    Outright(ExitCode),
+    Untold(io::Error),
+    Unread(io::Error),
 }
 
-fn answer(session: &mut [u8; 40], b: u8) -> u8 {
+fn after(told: io::Result<()>, next: At) -> At {
+    match told {
+        Ok(()) => next,
+        Err(why) => At::Untold(why),
+    }
+}
+
+fn answer(rt: &impl Print, session: &mut [u8; 40], b: u8) -> At {
     let number = glavorint_session_answer(session, b);
     if number == 0 {
-        return NEXT;
+        return At::Next;
     }
-    after(bench::unlisted(number), REFUSED)
+    after(bench::unlisted(rt, number), At::Refused)
 }
 
 // One line of the bench to a request.
-fn hear(session: &mut [u8; 40], write: bool) -> u8 {
-    let said = input::next(write);
+fn hear(rt: &HostRuntime, session: &mut [u8; 40], write: bool) -> At {
+    let said = match input::next(&mut rt.stdin(), write) {
+        Ok(said) => said,
+        Err(why) => return At::Unread(why),
+    };
     if said < 256 {
-        return answer(session, said as u8);
+        return answer(rt, session, said as u8);
     }
     match said {
-        257 => after(bench::show_words(session), NEXT),
-        258 => DONE,
-        260 => UNREAD,
-        _ => after(bench::puzzled(), STANDS),
+        257 => after(bench::show_words(rt, session), At::Next),
+        258 => At::Done,
+        _ => after(bench::puzzled(rt), At::Stands),
     }
 }
 
 // One request, printed where it doesn't stand already.
-fn turn(session: &mut [u8; 40], stands: bool) -> u8 {
+fn turn(rt: &HostRuntime, session: &mut [u8; 40], stands: bool) -> At {
     let asked = glavorint_session_request(session);
     let number = refusal(asked);
     if number != 0 {
-        bench::refused(session, number);
-        return OUTRIGHT;
+        return At::Outright(bench::refused(rt, &rt.stderr(), session, number));
     }
     if !stands {
-        if !bench::show(session, asked) {
-            return UNTOLD;
+        if let Err(why) = bench::show(rt, session, asked) {
+            return At::Untold(why);
         }
     }
-    hear(session, writes(asked))
+    hear(rt, session, writes(asked))
+}
+
+// Nothing more is asked.
+fn is_over(at: &At) -> bool {
+    match at {
+        At::Next | At::Stands | At::Refused => false,
+        _ => true,
+    }
+}
+
+fn is_standing(at: &At) -> bool {
+    match at {
+        At::Stands => true,
+        _ => false,
+    }
 }
 
 // 1 once a byte was refused.
-fn status_after(status: u8, at: u8) -> u8 {
-    if at == REFUSED { 1 } else { status }
-}
-
-fn leave(session: &[u8; 40], at: u8, status: u8) {
+fn status_after(status: u8, at: &At) -> u8 {
     match at {
-        OUTRIGHT => (),
-        UNTOLD => untold(),
-        UNREAD => unread(),
-        _ => bench::finish(session, status),
+        At::Refused => 1,
+        _ => status,
     }
 }
 
-// Nothing says that the input ends, so the turns are counted down from a number that no session uses up.
-fn sit(session: &mut [u8; 40]) {
-    let mut at = NEXT;
-    let mut status: u8 = 0;
-    let mut turns = u64::MAX;
-    while turns > 0 && at < DONE {
-        at = turn(session, at == STANDS);
-        status = status_after(status, at);
-        turns -= 1;
+fn leave(rt: &HostRuntime, session: &[u8; 40], at: At, status: u8) -> ExitCode {
+    let err = rt.stderr();
+    match at {
+        At::Outright(code) => code,
+        At::Untold(why) => untold(&err, why),
+        At::Unread(why) => unread(&err, why),
+        _ => bench::finish(rt, &err, session, status),
     }
-    leave(session, at, status);
+}
+
+// Nothing says that the input ends, so the turns are at most a number that no session uses up.
+fn sit(rt: &HostRuntime, session: &mut [u8; 40]) -> ExitCode {
+    let mut at = At::Next;
+    let mut status: u8 = 0;
+    for _ in 0..u64::MAX {
+        if is_over(&at) {
+            break;
+        }
+        at = turn(rt, session, is_standing(&at));
+        status = status_after(status, &at);
+    }
+    leave(rt, session, at, status)
 }
 
 // Ten words or sixteen. A session begins with no cycle done.
-fn begin(count: usize) {
+fn begin(rt: &HostRuntime, count: usize) -> ExitCode {
     let mut rec = [0u8; 32];
-    if !gate::start::read(count, 1, usize::MAX, &mut rec) {
-        end(2);
-        return;
+    if !gate::start::read(rt, &rt.stderr(), count, 1, usize::MAX, &mut rec) {
+        return end(2);
     }
     let mut session = [0u8; 40];
     lay_front(&mut session, &rec);
-    sit(&mut session);
+    sit(rt, &mut session)
 }
 
-fn main() {
-    let count = os::arg_count();
+fn main(rt: HostRuntime) -> ExitCode {
+    let count = gate::args::count(&rt);
     if count == 11 {
-        begin(10);
+        begin(&rt, 10)
     } else if count == 17 {
-        begin(16);
+        begin(&rt, 16)
     } else {
-        complain(b"usage: step A X Y S D PC PBR DBR P E [HELD OPCODE CYCLE ADDRESS DATA BANK]\n");
-        end(2);
+        complain(
+            &rt.stderr(),
+            b"usage: step A X Y S D PC PBR DBR P E [HELD OPCODE CYCLE ADDRESS DATA BANK]\n",
+        );
+        end(2)
     }
 }

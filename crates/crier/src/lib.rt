@@ -1,2 +1,4 @@
 // What rounds, refusals and benches say: a part of the three.
+#![tactic(auto)]
+
 pub mod say;

@@ -1,58 +1,61 @@
 // How runs and sessions ended, in words and numbers.
 use cpu::types::Record;
-use libc::STDOUT_FILENO;
 use run::types::Outcome;
 
-pub fn say(text: &[u8]) {
-    io::write_all(STDOUT_FILENO, text);
+pub fn say(rt: &impl Print, text: &[u8]) {
+    let _ = rt.write_all(text);
 }
 
-fn say_number(name: &[u8], n: u64) {
-    say(name);
-    io::print_decimal(STDOUT_FILENO, n);
+fn say_number(rt: &impl Print, name: &[u8], n: u64) {
+    say(rt, name);
+    let _ = rt.print(n);
 }
 
-fn say_word(name: &[u8], n: u16) {
-    say(name);
-    io::print_hex(STDOUT_FILENO, n as u64, 4);
+fn say_word(rt: &impl Print, name: &[u8], n: u16) {
+    say(rt, name);
+    let _ = print!(rt; "{n:04x}");
 }
 
-fn say_words(a: u16, x: u16, y: u16, pc: u16) {
-    say_word(b"  A ", a);
-    say_word(b" X ", x);
-    say_word(b" Y ", y);
-    say_word(b" PC ", pc);
+fn say_words(rt: &impl Print, a: u16, x: u16, y: u16, pc: u16) {
+    say_word(rt, b"  A ", a);
+    say_word(rt, b" X ", x);
+    say_word(rt, b" Y ", y);
+    say_word(rt, b" PC ", pc);
 }
 
 // A record still under way is said to be held.
-fn say_held(held: bool) {
-    if held { say(b"  held\n") } else { say(b"\n") }
+fn say_held(rt: &impl Print, held: bool) {
+    if held {
+        say(rt, b"  held\n")
+    } else {
+        say(rt, b"\n")
+    }
 }
 
 // How a run ended: its refusal and its count, and the record after.
-pub fn say_end(refusal: u8, cycles: u32, r: Record) {
-    say_number(b"\n  refusal ", refusal as u64);
-    say_number(b" cycles ", cycles as u64);
-    say_words(r.a, r.x, r.y, r.pc);
-    say_held(r.held);
+pub fn say_end(rt: &impl Print, refusal: u8, cycles: u32, r: Record) {
+    say_number(rt, b"\n  refusal ", refusal as u64);
+    say_number(rt, b" cycles ", cycles as u64);
+    say_words(rt, r.a, r.x, r.y, r.pc);
+    say_held(rt, r.held);
 }
 
 // The same of a run, after its name.
-pub fn say_run(name: &[u8], o: Outcome) {
-    say(name);
-    say_end(o.refusal, o.cycles, o.after);
+pub fn say_run(rt: &impl Print, name: &[u8], o: Outcome) {
+    say(rt, name);
+    say_end(rt, o.refusal, o.cycles, o.after);
 }
 
-pub fn say_byte(name: &[u8], n: u8) {
-    say_number(name, n as u64);
-    say(b"\n");
+pub fn say_byte(rt: &impl Print, name: &[u8], n: u8) {
+    say_number(rt, name, n as u64);
+    say(rt, b"\n");
 }
 
 // What a session's cycle came to.
-pub fn say_step(name: &[u8], number: u8, count: u64, pc: u16) {
-    say(name);
-    say_number(b"\n  number ", number as u64);
-    say_number(b" count ", count);
-    say_word(b" PC ", pc);
-    say(b"\n");
+pub fn say_step(rt: &impl Print, name: &[u8], number: u8, count: u64, pc: u16) {
+    say(rt, name);
+    say_number(rt, b"\n  number ", number as u64);
+    say_number(rt, b" count ", count);
+    say_word(rt, b" PC ", pc);
+    say(rt, b"\n");
 }

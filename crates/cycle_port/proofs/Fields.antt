@@ -31,7 +31,7 @@ use Rattle.step.specs.Cycle.{micro_of, asked_by, request_of}
 use Rattle.packed.specs.Packed.{unpack, unpacked, byte_at}
 use Rattle.packed.specs.declared.types.Unpacked.TheVariants.{Good}
 use Rattle.packed.proofs.RoundTrip.{good_record}
-use Rattle.step.specs.Answers.{kindNumber, askedValues}
+use Rattle.step.specs.Answers.{kind_number, asked_values}
 use Rattle.numbers.specs.Numbers.{value_bits, asked_bits}
 use Rattle.numbers.proofs.Bytes.{Bytes}
 use Rattle.cycle_port.specs.Port.{request_number}
@@ -229,10 +229,10 @@ asked_small (Held q m c t o) r h = (addr_small q o r h, byte_small q o r h)
 pub record Fields (q : Request) (n : ℕ) : Type 0 where
   pub addr : n % 16777216 ≡ q.addr
   pub byte : n / 16777216 % 256 ≡ q.byte
-  pub kind : n / 4294967296 % 256 ≡ kindNumber q.kind
+  pub kind : n / 4294967296 % 256 ≡ kind_number q.kind
   pub write : n / 1099511627776 ≡ bit q.write
 
-kind_small : (k : Kind) → kindNumber k < 4
+kind_small : (k : Kind) → kind_number k < 4
 kind_small kind.Opcode = omega arith
 kind_small kind.Program = omega arith
 kind_small kind.Data = omega arith
@@ -259,11 +259,11 @@ fields : (q : Request) → q.addr < 16777216 → q.byte < 256 → Fields q (aske
 fields q h g =
     let k = kind_small q.kind in
     let w = bit_small q.write in
-    subst (Fields q) (sym (add-zero (value_bits (askedValues (asked.Ask q))))) (record {
-      addr = first q.addr q.byte (kindNumber q.kind) (bit q.write) h g k w;
-      byte = second q.addr q.byte (kindNumber q.kind) (bit q.write) h g k w;
-      kind = third q.addr q.byte (kindNumber q.kind) (bit q.write) h g k w;
-      write = fourth q.addr q.byte (kindNumber q.kind) (bit q.write) h g k w;
+    subst (Fields q) (sym (add-zero (value_bits (asked_values (asked.Ask q))))) (record {
+      addr = first q.addr q.byte (kind_number q.kind) (bit q.write) h g k w;
+      byte = second q.addr q.byte (kind_number q.kind) (bit q.write) h g k w;
+      kind = third q.addr q.byte (kind_number q.kind) (bit q.write) h g k w;
+      write = fourth q.addr q.byte (kind_number q.kind) (bit q.write) h g k w;
     })
 
 -- whatever bytes a packed record has, what it asks stands in the number

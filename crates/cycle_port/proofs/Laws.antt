@@ -14,16 +14,16 @@ use Rattle.packed.specs.declared.types.Unpacked.TheVariants.{Good, Bad}
 use Rattle.cycle_port.specs.Port.{answer_bytes}
 
 module _ (b : List ℕ) (byte : ℕ) (u : Unpacked) (e : u ≡ unpacked b) where
-  pub answer-bad : u ≡ Bad → answer_bytes b byte ≡ record { number = 4; bytes = b }
+  pub answer_bad : u ≡ Bad → answer_bytes b byte ≡ record { number = 4; bytes = b }
   unfolding answer_bytes
-  answer-bad h = rw (← e, h)
+  answer_bad h = rw (← e, h)
 
-  pub answer-refused : (r : Record) (a : Answer) (n : Refusal) → u ≡ Good r → a ≡ answer_of r byte → a ≡ Refused n
+  pub answer_refused : (r : Record) (a : Answer) (n : Refusal) → u ≡ Good r → a ≡ answer_of r byte → a ≡ Refused n
       → answer_bytes b byte ≡ record { number = number_of n; bytes = b }
   unfolding answer_bytes
-  answer-refused r a n h f g = rw (← e, h, ← f, g)
+  answer_refused r a n h f g = rw (← e, h, ← f, g)
 
-  pub answer-next : (r s : Record) (a : Answer) → u ≡ Good r → a ≡ answer_of r byte → a ≡ Next s
+  pub answer_next : (r s : Record) (a : Answer) → u ≡ Good r → a ≡ answer_of r byte → a ≡ Next s
       → answer_bytes b byte ≡ record { number = 0; bytes = pack s }
   unfolding answer_bytes
-  answer-next r s a h f g = rw (← e, h, ← f, g)
+  answer_next r s a h f g = rw (← e, h, ← f, g)

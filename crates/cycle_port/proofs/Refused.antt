@@ -10,7 +10,7 @@ use Rattle.packed.proofs.RoundTrip.{found_again}
 use Rattle.numbers.specs.Numbers.{asked_bits}
 use Rattle.numbers.proofs.Bytes.{unfound}
 use Rattle.cycle_port.specs.Port.{request_number, answered_by, answer_bytes}
-use Rattle.cycle_port.proofs.Laws.{answer-bad}
+use Rattle.cycle_port.proofs.Laws.{answer_bad}
 
 pub request_packed : (r : Record) → request_number (pack r) ≡ asked_bits (request_of r)
 unfolding request_number
@@ -25,4 +25,4 @@ unfolding request_number
 request_4 b h = rw h
 
 pub answer_4 : (b : List ℕ) (byte : ℕ) → is_packed b ≡ false → answer_bytes b byte ≡ record { number = 4; bytes = b }
-answer_4 b byte h = answer-bad b byte (unpacked b) refl (unfound b h)
+answer_4 b byte h = answer_bad b byte (unpacked b) refl (unfound b h)

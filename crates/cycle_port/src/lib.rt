@@ -1,2 +1,4 @@
 // The functions that a program in C or Rust links for single cycles, on numbers and lent bytes. include/glavorint.h says what a caller has to know.
+#![tactic(auto)]
+
 pub mod cycle;

@@ -1,27 +1,32 @@
 // The day's title, and how its run and its checks end.
 use crate::say::say;
-use words::both;
+use std::io;
 
-pub fn say_title() -> bool {
+pub fn say_title(rt: &impl Print) -> io::Result<()> {
     let one = say(
+        rt,
         b"A day at the farmyard\nEach pulse of the tanker's flow meter is a litre. A ROM for the",
     );
-    let two = say(b" 65C816 (docs/ROM.md)\ncounts them in decimal digits and moves each finished");
-    both(both(one, two), say(b" delivery into the log by MVN.\n\n"))
+    let two = say(
+        rt,
+        b" 65C816 (docs/ROM.md)\ncounts them in decimal digits and moves each finished",
+    );
+    one.and(two)
+        .and(say(rt, b" delivery into the log by MVN.\n\n"))
 }
 
-pub fn say_done(done: bool) -> bool {
+pub fn say_done(rt: &impl Print, done: bool) -> io::Result<()> {
     if done {
-        say(b": STP, the day is done\n")
+        say(rt, b": STP, the day is done\n")
     } else {
-        say(b": NOT the end of the day\n")
+        say(rt, b": NOT the end of the day\n")
     }
 }
 
-pub fn say_all(all: bool) -> bool {
+pub fn say_all(rt: &impl Print, all: bool) -> io::Result<()> {
     if all {
-        say(b"All agrees.\n")
+        say(rt, b"All agrees.\n")
     } else {
-        say(b"NOT all agrees.\n")
+        say(rt, b"NOT all agrees.\n")
     }
 }

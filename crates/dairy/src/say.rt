@@ -1,7 +1,7 @@
 // Lines are written by a form, whose marks stand for values in their order: `#` a number, `@` one that ends five places on, `%` two hex digits,
-// `^` four. Every other byte is itself. What is said answers whether it could be written.
-use libc::STDOUT_FILENO;
-use words::{both, either};
+// `^` four. Every other byte is itself. What is said answers whether it could be written, or why not.
+use std::io;
+use words::either;
 
 const ROOM: usize = 256;
 
@@ -12,14 +12,14 @@ struct Pen {
     next: usize,
 }
 
-pub fn say(text: &[u8]) -> bool {
-    io::write_all(STDOUT_FILENO, text)
+pub fn say(rt: &impl Print, text: &[u8]) -> io::Result<()> {
+    rt.write_all(text)
 }
 
 // The first bytes of a text.
-pub fn say_first(text: &[u8], n: usize) -> bool {
-    let k = io::count((n % 65536) as isize, text);
-    say(&text[..k])
+pub fn say_first(rt: &impl Print, text: &[u8], n: usize) -> io::Result<()> {
+    let k = (n % 65536).min(text.len());
+    say(rt, &text[..k])
 }
 
 fn put(line: &mut [u8; 256], at: usize, b: u8) -> usize {
@@ -125,21 +125,21 @@ fn put_form(line: &mut [u8; 256], form: &[u8], values: &[u64]) -> usize {
     pen.at
 }
 
-fn say_line(line: &[u8; 256], n: usize) -> bool {
-    say_first(line, n)
+fn say_line(rt: &impl Print, line: &[u8; 256], n: usize) -> io::Result<()> {
+    say_first(rt, line, n)
 }
 
-pub fn say_form(form: &[u8], values: &[u64]) -> bool {
+pub fn say_form(rt: &impl Print, form: &[u8], values: &[u64]) -> io::Result<()> {
     let mut line = [0u8; 256];
     let n = put_form(&mut line, form, values);
-    say_line(&line, n)
+    say_line(rt, &line, n)
 }
 
-fn say_agrees(agrees: bool) -> bool {
+fn say_agrees(rt: &impl Print, agrees: bool) -> io::Result<()> {
     if agrees {
-        say(b": agrees\n")
+        say(rt, b": agrees\n")
     } else {
-        say(b": DIFFERS\n")
+        say(rt, b": DIFFERS\n")
     }
 }
 
@@ -147,13 +147,13 @@ fn say_agrees(agrees: bool) -> bool {
 #[derive(Clone, Copy)]
 pub struct Check {
     pub agrees: bool,
-    pub told: bool,
+    pub told: io::Result<()>,
 }
 
 // The end of a check's line, whose begin was written or not.
-pub fn say_verdict(told: bool, agrees: bool) -> Check {
+pub fn say_verdict(rt: &impl Print, told: io::Result<()>, agrees: bool) -> Check {
     Check {
         agrees: agrees,
-        told: both(told, say_agrees(agrees)),
+        told: told.and(say_agrees(rt, agrees)),
     }
 }

@@ -1,9 +1,10 @@
 // 16,384 random deliveries at each width, through the real run over a memory that holds their program: prints start, end, wraps and both sides of
 // demand 3. The first delivery to the last is also one run; it must come to the same record.
+#![tactic(auto)]
+
 ghost use Rattle.std.specs.Prelude.{◌<◌};
 
 use cpu::types::Record;
-use libc::STDOUT_FILENO;
 use meadow::{amount, fill, get, place, value};
 use run::run::run;
 use std::num::wrapping_add_u64;
@@ -19,13 +20,13 @@ struct Yard {
     refused: u64,
 }
 
-fn say(text: &[u8]) {
-    io::write_all(STDOUT_FILENO, text);
+fn say(rt: &impl Print, text: &[u8]) {
+    let _ = rt.write_all(text);
 }
 
-fn say_number(name: &[u8], n: u64) {
-    say(name);
-    io::print_decimal(STDOUT_FILENO, n);
+fn say_number(rt: &impl Print, name: &[u8], n: u64) {
+    say(rt, name);
+    let _ = rt.print(n);
 }
 
 fn bit(t: bool) -> u64 {
@@ -102,23 +103,25 @@ fn holding(wide: bool, r: Record) -> u64 {
     }
 }
 
-fn say_yard(wide: bool, from: Record, y: Yard) {
-    say_number(b"  start ", holding(wide, from));
-    say_number(b", added ", y.added);
-    say_number(b", taken ", y.taken);
-    say_number(b"\n  end ", holding(wide, y.at));
-    say_number(b", wraps up ", y.ups);
-    say_number(b", wraps down ", y.downs);
-    say_number(b", refused ", y.refused);
+fn say_yard(rt: &impl Print, wide: bool, from: Record, y: Yard) {
+    say_number(rt, b"  start ", holding(wide, from));
+    say_number(rt, b", added ", y.added);
+    say_number(rt, b", taken ", y.taken);
+    say_number(rt, b"\n  end ", holding(wide, y.at));
+    say_number(rt, b", wraps up ", y.ups);
+    say_number(rt, b", wraps down ", y.downs);
+    say_number(rt, b", refused ", y.refused);
     say_number(
+        rt,
         b"\n  end + M x ups + taken = ",
         sum3(holding(wide, y.at), wrapped(wide, y.ups), y.taken),
     );
     say_number(
+        rt,
         b"\n  start + added + M x downs = ",
         sum3(holding(wide, from), y.added, wrapped(wide, y.downs)),
     );
-    say(b"\n");
+    say(rt, b"\n");
 }
 
 fn sum3(a: u64, b: u64, c: u64) -> u64 {
@@ -132,28 +135,28 @@ fn wrapped(wide: bool, n: u64) -> u64 {
 }
 
 // All deliveries in one run.
-fn say_run(mem: &mut [u8; 65536], wide: bool, from: Record) {
+fn say_run(rt: &impl Print, mem: &mut [u8; 65536], wide: bool, from: Record) {
     let o = run(from, mem, if wide { 81920 } else { 65536 });
     let end = o.after;
-    say_number(b"  in one run: cycles ", o.cycles as u64);
-    say_number(b", refusal ", o.refusal as u64);
-    say_number(b", end ", holding(wide, end));
-    say_number(b", PC ", end.pc as u64);
-    say(b"\n");
+    say_number(rt, b"  in one run: cycles ", o.cycles as u64);
+    say_number(rt, b", refusal ", o.refusal as u64);
+    say_number(rt, b", end ", holding(wide, end));
+    say_number(rt, b", PC ", end.pc as u64);
+    say(rt, b"\n");
 }
 
-fn show(wide: bool, seed: u32) {
+fn show(rt: &impl Print, wide: bool, seed: u32) {
     let mut mem = [0u8; 65536];
     fill(&mut mem, wide, seed);
     let from = start(wide);
     let y = deliver_all(&mut mem, wide, from);
-    say_yard(wide, from, y);
-    say_run(&mut mem, wide, from);
+    say_yard(rt, wide, from, y);
+    say_run(rt, &mut mem, wide, from);
 }
 
-fn main() {
-    say(b"8 bits, 16384 deliveries, seed 816\n");
-    show(false, 816);
-    say(b"16 bits, 16384 deliveries, seed 65816\n");
-    show(true, 65816);
+fn main(rt: HostRuntime) {
+    say(&rt, b"8 bits, 16384 deliveries, seed 816\n");
+    show(&rt, false, 816);
+    say(&rt, b"16 bits, 16384 deliveries, seed 65816\n");
+    show(&rt, true, 65816);
 }

@@ -70,8 +70,8 @@ no_lines r m = refl
 module _ (b l n p : ℕ) (r at : Record) (m₀ t₀ m t : List ℕ) (k : Mark) (fits : l ≤ b) (few : n + b ≤ most + 1)
     (so_far : Walked r m₀ t₀ n p (walk (b - l) k.place at) m t) (shows : k.dial ≡ dial_of (n + (b - l))) where
   -- so much room is left
-  pub room-left : p + 22 * b ≤ length t₀ → k.place + 22 * l ≤ length t
-  room-left h =
+  pub room_left : p + 22 * b ≤ length t₀ → k.place + 22 * l ≤ length t
+  room_left h =
       omega (arith, h, fits, few, walked_place r m₀ t₀ n p (walk (b - l) k.place at) m t (omega (arith, few)) so_far, wrote_length so_far.wrote)
 
   -- c cycles more
@@ -83,9 +83,9 @@ module _ (b l n p : ℕ) (r at : Record) (m₀ t₀ m t : List ℕ) (k : Mark) (
       (walked_more r m₀ t₀ n p (b - l) k.place at m t c s m' t' k o so_far x w shows refl (omega (arith, few, fits, h)) (subst Small (sym e) g)
       (subst (Drawn t t' k o) (sym e) d))
 
-  shows-by : (c : ℕ) (s : Record) (m' t' : List ℕ) (o : Mark) (ls : List Request) → c ≤ l → Passes c at m s m' → (run_of c at m).lines ≡ ls
+  shows_by : (c : ℕ) (s : Record) (m' t' : List ℕ) (o : Mark) (ls : List Request) → c ≤ l → Passes c at m s m' → (run_of c at m).lines ≡ ls
       → Drawn t t' k o ls → o.dial ≡ dial_of (n + (b - (l - c)))
-  shows-by c s m' t' o ls h x e d =
+  shows_by c s m' t' o ls h x e d =
       let q : length ls ≡ c = ap length (sym e) ∙ x.count in
       let j : n + (b - l) + length ls ≡ n + (b - (l - c)) = omega (arith, h, fits, q) in
       d.dial ∙ ap (λ (v : Dial). turns_of v ls) shows ∙ turns_lines (n + (b - l)) ls (omega (arith, few, fits, h, q)) ∙ ap dial_of j
@@ -96,26 +96,26 @@ module _ (b l n p : ℕ) (r at : Record) (m₀ t₀ m t : List ℕ) (k : Mark) (
     walked_on : well_formed s ≡ true → Small ls → Walked r m₀ t₀ n p (walk (b - (l - c)) o.place s) m' t'
     walked_on w g = walked_by c s m' t' o ls h x w e g (drawn_ready t t' m' k o ls d room whole)
 
-    pub shows-on : o.dial ≡ dial_of (n + (b - (l - c)))
-    shows-on = shows-by c s m' t' o ls h x e (drawn_ready t t' m' k o ls d room whole)
+    pub shows_on : o.dial ≡ dial_of (n + (b - (l - c)))
+    shows_on = shows_by c s m' t' o ls h x e (drawn_ready t t' m' k o ls d room whole)
 
   -- a stride more, or a byte of a move
-  pub walked-stride : (c : ℕ) (s : Record) (m' t' : List ℕ) (o : Mark) → c ≤ l → Passes c at m s m' → (run_of c at m).lines ≡ stride_lines at m m' c
+  pub walked_stride : (c : ℕ) (s : Record) (m' t' : List ℕ) (o : Mark) → c ≤ l → Passes c at m s m' → (run_of c at m).lines ≡ stride_lines at m m' c
       → k.place + 161 ≤ length t → length m' ≡ 65536 → Drawn t t' k o (pick (ready k.place t m') (stride_lines at m m' c) [])
       → well_formed s ≡ true → at.pc < 65536 → get_or m (up at.pc 2) 0 < 256 → Walked r m₀ t₀ n p (walk (b - (l - c)) o.place s) m' t'
-  walked-stride c s m' t' o h x e room whole d w pc byte =
+  walked_stride c s m' t' o h x e room whole d w pc byte =
       walked_on c s m' t' o (stride_lines at m m' c) h x e room whole d w
       (small_track (track_of (get_or m at.pc 0)) (unaligned at.d) (get_or m at.pc 0) (get_or m (up at.pc 1) 0) (get_or m (up at.pc 2) 0) at.pc at.d c m' pc byte)
 
-  abbrev byteLines : List ℕ → List Request
-  byteLines m' =
+  abbrev byte_lines : List ℕ → List Request
+  byte_lines m' =
       haul_lines (get_or m at.pc 0) (get_or m (up at.pc 1) 0) (get_or m (up at.pc 2) 0) at.pc at.x at.y (get_or m at.x 0) (get_or m' at.y 0)
 
-  pub walked-haul : (c : ℕ) (s : Record) (m' t' : List ℕ) (o : Mark) → c ≤ l → Passes c at m s m' → (run_of c at m).lines ≡ byteLines m'
-      → k.place + 161 ≤ length t → length m' ≡ 65536 → Drawn t t' k o (pick (ready k.place t m') (byteLines m') [])
+  pub walked_haul : (c : ℕ) (s : Record) (m' t' : List ℕ) (o : Mark) → c ≤ l → Passes c at m s m' → (run_of c at m).lines ≡ byte_lines m'
+      → k.place + 161 ≤ length t → length m' ≡ 65536 → Drawn t t' k o (pick (ready k.place t m') (byte_lines m') [])
       → well_formed s ≡ true → (at.pc < 65536) × (at.x < 65536) × (at.y < 65536) → Walked r m₀ t₀ n p (walk (b - (l - c)) o.place s) m' t'
-  walked-haul c s m' t' o h x e room whole d w z =
-      walked_on c s m' t' o (byteLines m') h x e room whole d w
+  walked_haul c s m' t' o h x e room whole d w z =
+      walked_on c s m' t' o (byte_lines m') h x e room whole d w
       (small_haul (get_or m at.pc 0) (get_or m (up at.pc 1) 0) (get_or m (up at.pc 2) 0) at.pc at.x at.y (get_or m at.x 0) (get_or m' at.y 0) z.0 z.1 z.2)
 
   -- none more

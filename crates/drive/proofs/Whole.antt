@@ -17,14 +17,14 @@ use Rattle.run.specs.Runs.{run_of, size, most}
 use Rattle.run.specs.Passes.{Passes}
 use Rattle.run.specs.Far.{ahead_far}
 use Rattle.run.proofs.Whole.{passes_none}
-use Rattle.run.proofs.Far.{far-inside}
+use Rattle.run.proofs.Far.{far_inside}
 use Rattle.drive.specs.Drives.{walk, Walked, Driven, roomy, drivable, gone_by}
 use Rattle.drive.specs.declared.types.Walk.{Walk}
 
 -- a stretch is what its cycles come to, and a drive whose cycles pass is a stretch
 module _ (r : Record) (m t : List ℕ) (k p : ℕ) (w : Walk) (m' t' : List ℕ) where
-  driven-by : Walked r m t k p w m' t' → Driven w.cycles r m t k p w m' t'
-  driven-by x =
+  driven_by : Walked r m t k p w m' t' → Driven w.cycles r m t k p w m' t'
+  driven_by x =
       record {
         answer = ap (λ (i : ℕ). walk w.cycles i w.after) x.wrote.place
             ∙ ap (walk w.cycles (p + length (lines_text k (run_of w.cycles r m).lines))) (sym x.passes.rec);
@@ -70,25 +70,25 @@ module _ (p before b : ℕ) (r : Record) (m t : List ℕ) where
   gone w m' t' e x h f =
       let g : w.cycles ≡ gone_by p before b r m t = f ∙ ap (λ (v : Bool). pick v (ahead_far b r m) 0) (sym e) in
       let z = drives e in (
-        subst (λ (i : ℕ). Driven i r m t (before + 1) p w m' t') g (driven-by r m t (before + 1) p w m' t' x),
+        subst (λ (i : ℕ). Driven i r m t (before + 1) p w m' t') g (driven_by r m t (before + 1) p w m' t' x),
         (x.passes, x.well ∙ sym z.0.1, omega (arith, h)),
       )
 
-  none-driven : Driven 0 r m t (before + 1) p (walk 0 p r) m t
+  none_driven : Driven 0 r m t (before + 1) p (walk 0 p r) m t
   unfolding run_of lines_text
-  none-driven = record { answer = rw add-zero; mem = refl; text = refl }
+  none_driven = record { answer = rw add-zero; mem = refl; text = refl }
 
   pub stayed : drivable p before b r m t ≡ false → Answered (walk 0 p r) m t
   stayed e =
       let g : 0 ≡ gone_by p before b r m t = ap (λ (v : Bool). pick v (ahead_far b r m) 0) (sym e) in
-      (subst (λ (i : ℕ). Driven i r m t (before + 1) p (walk 0 p r) m t) g none-driven, (passes_none r m, refl, omega arith))
+      (subst (λ (i : ℕ). Driven i r m t (before + 1) p (walk 0 p r) m t) g none_driven, (passes_none r m, refl, omega arith))
 
   -- inside an instruction
-  pub stayed-inside : (r.tcu ≡ 0 → ⊥) → Answered (walk 0 p r) m t
-  stayed-inside n =
-      let g : 0 ≡ gone_by p before b r m t = sym (by-none (drivable p before b r m t) (ahead_far b r m) (far-inside r n b m)) in
-      (subst (λ (i : ℕ). Driven i r m t (before + 1) p (walk 0 p r) m t) g none-driven, (passes_none r m, refl, omega arith))
+  pub stayed_inside : (r.tcu ≡ 0 → ⊥) → Answered (walk 0 p r) m t
+  stayed_inside n =
+      let g : 0 ≡ gone_by p before b r m t = sym (by_none (drivable p before b r m t) (ahead_far b r m) (far_inside r n b m)) in
+      (subst (λ (i : ℕ). Driven i r m t (before + 1) p (walk 0 p r) m t) g none_driven, (passes_none r m, refl, omega arith))
     where
-      by-none : (v : Bool) (k : ℕ) → k ≡ 0 → pick v k 0 ≡ 0
-      by-none true k e = e
-      by-none false k e = refl
+      by_none : (v : Bool) (k : ℕ) → k ≡ 0 → pick v k 0 ≡ 0
+      by_none true k e = e
+      by_none false k e = refl

@@ -1,4 +1,6 @@
 // Whole instructions, and bytes of a move, at a stretch over a memory: all their lines at once, by their track.
+#![tactic(auto)]
+
 ghost use Rattle.std.specs.Prelude.{◌≡◌, true, ◌&&◌, [], ◌+◌, ◌*◌, ◌-◌, ◌≤◌, ◌<◌, leb, length, get_or};
 ghost use Rattle.words.specs.Words.{pick, inc};
 ghost use Rattle.cpu.specs.Record.{well_formed};

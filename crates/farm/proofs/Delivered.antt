@@ -26,7 +26,7 @@ use Rattle.sheet.proofs.Walk.{and_left, widths_of}
 use Rattle.sheet.proofs.Kept.{well_ended}
 use Rattle.farm.specs.Pairs.{Delivery, Added, Taken, amount, bytes_of, modulus, adds, takes, Bus, Feeds, Ready, operand, program, code_place, holding, wraps_up, wraps_down}
 use Rattle.farm.proofs.Sums.{narrow, carry_for, alu_for, Leaves, sum_leaves, Sums, sums, byte_small}
-use Rattle.farm.proofs.Instructions.{Goes, carry_asks, carried, goes-carry, sum_asks, summed, Operand, goes-sum}
+use Rattle.farm.proofs.Instructions.{Goes, carry_asks, carried, goes_carry, sum_asks, summed, Operand, goes_sum}
 
 -- ---- a record that an instruction's end makes is ready where its registers are
 settles : (f : Flags) → widths_set f ≡ true → (f.emulation || f.memsel) ≡ f.memsel
@@ -113,15 +113,15 @@ pub record Delivered (w : Bool) (bus : Bus) (t : ℕ) (r : Record) (d : Delivery
   pub first_reads : Reads r.pbr (carry_asks r)
   pub second_reads : Reads mid.pbr (sum_asks mid w)
   pub ready : Ready w end
-  pub mid-bank : mid.pbr ≡ r.pbr
+  pub mid_bank : mid.pbr ≡ r.pbr
   pub bank : end.pbr ≡ r.pbr
   pub past : end.pc ≡ up r.pc (pick w 4 3)
   pub fed : Feeds bus end.pbr end.pc rest
   pub same : holding w end + modulus w * wraps_up d end.flags.carry + takes w d ≡ holding w r + adds w d + modulus w * wraps_down d end.flags.carry
 
 module _ (w : Bool) (bus : Bus) (t : ℕ) (r : Record) (h : Ready w r) where
-  carried-ready : (c : Bool) → Ready w (carried r c)
-  carried-ready c = ready_ended w r h _ _ _ _ _ _ (record { d = refl; m = refl; widths = refl }) h.digits (inc_small r.pc)
+  carried_ready : (c : Bool) → Ready w (carried r c)
+  carried_ready c = ready_ended w r h _ _ _ _ _ _ (record { d = refl; m = refl; widths = refl }) h.digits (inc_small r.pc)
 
   module _ (x y : ℕ) (d : Delivery) (rest : List ℕ) (hx : decode_of x ≡ Listed Implied (Do (Carry (carry_for d))))
       (hy : decode_of y ≡ Listed Immediate (Read (alu_for d) A)) (q : Digits (bytes_of w) (amount d))
@@ -129,35 +129,35 @@ module _ (w : Bool) (bus : Bus) (t : ℕ) (r : Record) (h : Ready w r) where
     abbrev mid : Record
     mid = carried r (carry_for d)
 
-    mid-ready : Ready w mid
-    mid-ready = carried-ready (carry_for d)
+    mid_ready : Ready w mid
+    mid_ready = carried_ready (carry_for d)
 
-    mid-fed : Feeds bus mid.pbr mid.pc (y ∷ operand w (amount d) rest)
+    mid_fed : Feeds bus mid.pbr mid.pc (y ∷ operand w (amount d) rest)
     unfolding ended
-    mid-fed = next_byte bus r.pbr r.pc x _ h.inside fed
+    mid_fed = next_byte bus r.pbr r.pc x _ h.inside fed
 
     goes_first : Goes bus t r mid (carry_asks r)
-    goes_first = goes-carry bus t r h.well h.start h.inside (carry_for d) (ap decode_of (fed.answers t 0 Opcode refl (omega arith)) ∙ hx)
+    goes_first = goes_carry bus t r h.well h.start h.inside (carry_for d) (ap decode_of (fed.answers t 0 Opcode refl (omega arith)) ∙ hx)
 
     abbrev end : Record
     end = summed mid (alu_for d) (amount d) w
 
-    goes-second : Goes bus (t + 2) mid end (sum_asks mid w)
-    goes-second =
-        goes-sum bus (t + 2) mid mid-ready.well mid-ready.start mid-ready.inside (alu_for d) (amount d)
-        (ap decode_of (mid-fed.answers (t + 2) 0 Opcode refl (omega arith)) ∙ hy) w mid-ready.width (operand_fed bus (t + 2) mid y (amount d) rest w q mid-fed)
+    goes_second : Goes bus (t + 2) mid end (sum_asks mid w)
+    goes_second =
+        goes_sum bus (t + 2) mid mid_ready.well mid_ready.start mid_ready.inside (alu_for d) (amount d)
+        (ap decode_of (mid_fed.answers (t + 2) 0 Opcode refl (omega arith)) ∙ hy) w mid_ready.width (operand_fed bus (t + 2) mid y (amount d) rest w q mid_fed)
 
-    mid-carry : mid.flags.carry ≡ carry_for d
+    mid_carry : mid.flags.carry ≡ carry_for d
     unfolding ended
-    mid-carry = refl
+    mid_carry = refl
 
-    end-sums : Sums w d mid.a (operated_at (alu_for d) w mid.a (amount d) mid.flags)
-    end-sums = sums w d mid.a mid.flags mid-ready.decimal mid-carry mid-ready.digits q
+    end_sums : Sums w d mid.a (operated_at (alu_for d) w mid.a (amount d) mid.flags)
+    end_sums = sums w d mid.a mid.flags mid_ready.decimal mid_carry mid_ready.digits q
 
-    end-ready : Ready w end
-    end-ready =
-        ready_ended w mid mid-ready _ _ _ _ _ _ (sum_leaves w d mid.a (amount d) mid.flags) end-sums.digits
-        (up_small mid.pc (pick w 3 2) mid-ready.inside)
+    end_ready : Ready w end
+    end_ready =
+        ready_ended w mid mid_ready _ _ _ _ _ _ (sum_leaves w d mid.a (amount d) mid.flags) end_sums.digits
+        (up_small mid.pc (pick w 3 2) mid_ready.inside)
 
     -- the two instructions of a delivery, by its two opcodes
     made : Delivered w bus t r d rest
@@ -166,15 +166,15 @@ module _ (w : Bool) (bus : Bus) (t : ℕ) (r : Record) (h : Ready w r) where
       mid = mid;
       end = end;
       first = goes_first;
-      second = goes-second;
+      second = goes_second;
       first_reads = reads_carry r h.inside;
-      second_reads = reads_sum mid w mid-ready.inside;
-      ready = end-ready;
-      mid-bank = refl;
+      second_reads = reads_sum mid w mid_ready.inside;
+      ready = end_ready;
+      mid_bank = refl;
       bank = refl;
       past = past_both r.pc w;
-      fed = past_sum bus mid.pbr mid.pc y (amount d) rest w mid-ready.inside mid-fed;
-      same = end-sums.same;
+      fed = past_sum bus mid.pbr mid.pc y (amount d) rest w mid_ready.inside mid_fed;
+      same = end_sums.same;
     }
 
   pub delivered : (d : Delivery) (ds : List Delivery) → Digits (bytes_of w) (amount d) → Feeds bus r.pbr r.pc (program w (d ∷ ds))

@@ -16,32 +16,32 @@ use Rattle.farm.specs.Lent.{lent, memory_place, Holds, RunConserved}
 use Rattle.farm.proofs.Instructions.{carry_asks, sum_asks}
 use Rattle.farm.proofs.Delivered.{Delivered, delivered, Reads, sum_asks_count}
 use Rattle.farm.proofs.Deliveries.{later, tally_first}
-use Rattle.farm.proofs.OnMemory.{Through, through_none, through_both, through-goes, same_record}
+use Rattle.farm.proofs.OnMemory.{Through, through_none, through_both, through_goes, same_record}
 use Rattle.farm.proofs.Demand3.{demand_3}
 
 module _ (w : Bool) (m : List ℕ) (whole : length m ≡ size) where
   -- the cycles of a delivery
-  through-delivery : (t : ℕ) (r : Record) (d : Delivery) (rest : List ℕ) (x : Delivered w (lent m) t r d rest) → r.pbr ≡ 0
+  through_delivery : (t : ℕ) (r : Record) (d : Delivery) (rest : List ℕ) (x : Delivered w (lent m) t r d rest) → r.pbr ≡ 0
       → Through m (per_delivery w) r x.end
-  through-delivery t r d rest x z =
-      let first : Through m 2 r x.mid = through-goes m whole t r x.mid _ x.first (subst (λ (b : ℕ). Reads b (carry_asks r)) z x.first_reads) in
-      let second = through-goes m whole (t + 2) x.mid x.end _ x.second (subst (λ (b : ℕ). Reads b (sum_asks x.mid w)) (x.mid-bank ∙ z) x.second_reads) in
+  through_delivery t r d rest x z =
+      let first : Through m 2 r x.mid = through_goes m whole t r x.mid _ x.first (subst (λ (b : ℕ). Reads b (carry_asks r)) z x.first_reads) in
+      let second = through_goes m whole (t + 2) x.mid x.end _ x.second (subst (λ (b : ℕ). Reads b (sum_asks x.mid w)) (x.mid_bank ∙ z) x.second_reads) in
       let count : 2 + length (sum_asks x.mid w) ≡ per_delivery w = omega (arith, sum_asks_count x.mid w) in
       subst (λ (n : ℕ). Through m n r x.end) count (through_both m 2 _ r x.mid x.end first second)
 
   -- and of all of them: they lead to the tally's last record
-  through-deliveries : (ds : List Delivery) (t : ℕ) (r s : Record) → Ready w r → AllDigits w ds → Feeds (lent m) r.pbr r.pc (program w ds)
+  through_deliveries : (ds : List Delivery) (t : ℕ) (r s : Record) → Ready w r → AllDigits w ds → Feeds (lent m) r.pbr r.pc (program w ds)
       → r.pbr ≡ 0 → (tally (lent m) ds t r).last ≡ Next s → Through m (cycles_for w ds) r s
   unfolding tally
-  through-deliveries [] t r s h q fed z e =
+  through_deliveries [] t r s h q fed z e =
       let none : 0 ≡ cycles_for w [] = omega arith in
       subst (λ (n : ℕ). Through m n r s) none (subst (Through m 0 r) (same_record r s e) (through_none m r))
-  through-deliveries (d ∷ ds) t r s h q fed z e =
+  through_deliveries (d ∷ ds) t r s h q fed z e =
       let x = delivered w (lent m) t r h d ds q.0 fed in
       let last = sym (ap (λ (y : Tally). y.last) (tally_first w (lent m) t r d ds x)) ∙ e in
-      let rest = through-deliveries ds (later w t) x.end s x.ready q.1 x.fed (x.bank ∙ z) last in
+      let rest = through_deliveries ds (later w t) x.end s x.ready q.1 x.fed (x.bank ∙ z) last in
       let count : per_delivery w + cycles_for w ds ≡ cycles_for w (d ∷ ds) = omega arith in
-      subst (λ (n : ℕ). Through m n r s) count (through_both m (per_delivery w) (cycles_for w ds) r x.end s (through-delivery t r d _ x z) rest)
+      subst (λ (n : ℕ). Through m n r s) count (through_both m (per_delivery w) (cycles_for w ds) r x.end s (through_delivery t r d _ x z) rest)
 
 -- a memory that has the program is a bus that has it
 place_in_bank_0 : (bank pc i : ℕ) → bank ≡ 0 → pc < 65536 → code_place bank pc i ≡ memory_place pc i
@@ -65,7 +65,7 @@ pub demand_3_run : (w : Bool) (r : Record) (m : List ℕ) (ds : List Delivery) �
 demand_3_run w r m ds h z q bound holds =
     let fed = memory_feeds m r.pbr r.pc (program w ds) z h.inside holds in
     let x = demand_3 w (lent m) r ds h q bound fed in
-    let y = through-deliveries w m holds.whole ds 0 r x.0 h q fed z x.1.last in
+    let y = through_deliveries w m holds.whole ds 0 r x.0 h q fed z x.1.last in
     subst (RunConserved w r m ds) (sym (accepted (cycles_for w ds) r m holds.whole (budget_accepted w (length ds) bound))) (record {
       number = y.number;
       lines = omega (arith, y.count);

@@ -19,7 +19,7 @@ figures_hold = record {
   high = refl;
   wide = refl;
   none = refl;
-  ready-8 = record { well = refl; start = refl; decimal = refl; width = refl; digits = omega arith; inside = omega arith };
-  ready-e = record { well = refl; start = refl; decimal = refl; width = refl; digits = omega arith; inside = omega arith };
-  ready-16 = record { well = refl; start = refl; decimal = refl; width = refl; digits = omega arith; inside = omega arith };
+  ready_8 = record { well = refl; start = refl; decimal = refl; width = refl; digits = omega arith; inside = omega arith };
+  ready_e = record { well = refl; start = refl; decimal = refl; width = refl; digits = omega arith; inside = omega arith };
+  ready_16 = record { well = refl; start = refl; decimal = refl; width = refl; digits = omega arith; inside = omega arith };
 }

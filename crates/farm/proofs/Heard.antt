@@ -21,20 +21,20 @@ Told bus t b (q ∷ qs) = (b 0 ≡ bus t q) × Told bus (suc t) (later b) qs
 
 module _ (bus : Bus) (t : ℕ) where
   -- by what is asked, what the answer is, and whether the instruction ends there
-  told-pick : (b : ℕ → ℕ) (q : Request) (s : Record) (f : Record → Ran) (e : Bool) → b 0 ≡ bus t q
+  told_pick : (b : ℕ → ℕ) (q : Request) (s : Record) (f : Record → Ran) (e : Bool) → b 0 ≡ bus t q
       → Told bus (suc t) (later b) (f s).requests → Told bus t b (pick e (only q (Next s)) (also q (f s))).requests
-  told-pick b q s f true h k = (h, tt)
-  told-pick b q s f false h k = (h, k)
+  told_pick b q s f true h k = (h, tt)
+  told_pick b q s f false h k = (h, k)
 
-  told-after : (b : ℕ → ℕ) (r : Record) (q : Asked) (a : Answer) (f : Record → Ran) → b 0 ≡ reply bus t q
+  told_after : (b : ℕ → ℕ) (r : Record) (q : Asked) (a : Answer) (f : Record → Ran) → b 0 ≡ reply bus t q
       → Told bus (suc t) (later b) (f (left r a)).requests → Told bus t b (after q a f).requests
-  told-after b r (No n) a f h k = tt
-  told-after b r (Ask q) (Refused n) f h k = (h, tt)
-  told-after b r (Ask q) (Next s) f h k = told-pick b q s f (at_boundary s) h k
+  told_after b r (No n) a f h k = tt
+  told_after b r (Ask q) (Refused n) f h k = (h, tt)
+  told_after b r (Ask q) (Next s) f h k = told_pick b q s f (at_boundary s) h k
 
 pub heard_told : (n : ℕ) (bus : Bus) (t : ℕ) (r : Record) → Told bus t (heard bus t r) (run n (heard bus t r) r).requests
 unfolding run heard
 heard_told zero bus t r = tt
 heard_told (suc n) bus t r =
-    told-after bus t (heard bus t r) r (request_of r) (answer_of r (heard bus t r 0)) (run n (later (heard bus t r))) refl
+    told_after bus t (heard bus t r) r (request_of r) (answer_of r (heard bus t r 0)) (run n (later (heard bus t r))) refl
     (heard_told n bus (suc t) (left r (answer_of r (heard bus t r 0))))

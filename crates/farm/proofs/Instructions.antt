@@ -28,7 +28,7 @@ use Rattle.step.specs.Cycle.{micro_of, request_of}
 use Rattle.sheet.specs.Run.{Ran}
 use Rattle.sheet.specs.Sheet.{O, P, I, sheet, row, instruction, when, effect}
 use Rattle.sheet.proofs.Demand2.{demand_2}
-use Rattle.sheet.proofs.Effects.{effect-8, effect-16}
+use Rattle.sheet.proofs.Effects.{effect_8, effect_16}
 use Rattle.farm.specs.Pairs.{Bus, heard, on_bus}
 use Rattle.farm.proofs.Heard.{Told, heard_told}
 
@@ -74,31 +74,31 @@ module _ (bus : Bus) (t : ℕ) (r : Record) (well : well_formed r ≡ true) (sta
   fetches = rw (well, start)
 
   -- the opcode's byte
-  opcode-heard : b 0 ≡ bus t (O (place r 0))
+  opcode_heard : b 0 ≡ bus t (O (place r 0))
   unfolding heard request_of
-  opcode-heard = rw fetches
+  opcode_heard = rw fetches
 
   -- the byte that the bus answers to it names the row
-  on-sheet : (s : Shape) (o : Operation) → decode_of (bus t (O (place r 0))) ≡ Listed s o
+  on_sheet : (s : Shape) (o : Operation) → decode_of (bus t (O (place r 0))) ≡ Listed s o
       → on_bus bus t r ≡ sheet r b s o (wide_of o r.flags.memsel r.flags.indexsel) (unaligned r.d) r.flags.emulation
   unfolding instruction
-  on-sheet s o h = demand_2 r b well start near ∙ ap (row r b) (ap decode_of opcode-heard ∙ h)
+  on_sheet s o h = demand_2 r b well start near ∙ ap (row r b) (ap decode_of opcode_heard ∙ h)
 
-  pub goes-carry : (c : Bool) → decode_of (bus t (O (place r 0))) ≡ Listed Implied (Do (Carry c)) → Goes bus t r (carried r c) (carry_asks r)
+  pub goes_carry : (c : Bool) → decode_of (bus t (O (place r 0))) ≡ Listed Implied (Do (Carry c)) → Goes bus t r (carried r c) (carry_asks r)
   unfolding ended
-  goes-carry c h =
-      let e = on-sheet Implied (Do (Carry c)) h in
+  goes_carry c h =
+      let e = on_sheet Implied (Do (Carry c)) h in
       record { requests = ap (λ (u : Ran). u.requests) e; out = ap (λ (u : Ran). u.out) e }
 
   module _ (k : Alu) (h : decode_of (bus t (O (place r 0))) ≡ Listed Immediate (Read k A)) (w : Bool) (wide : r.flags.memsel ≡ not w) where
     at_width : on_bus bus t r ≡ sheet r b Immediate (Read k A) w (unaligned r.d) r.flags.emulation
     at_width =
-        on-sheet Immediate (Read k A) h
+        on_sheet Immediate (Read k A) h
         ∙ ap (λ (v : Bool). sheet r b Immediate (Read k A) v (unaligned r.d) r.flags.emulation) (ap not wide ∙ not-not w)
 
     -- what the bus answers to the operand's requests
-    operand-heard : Told bus t b (sum_asks r w)
-    operand-heard = subst (Told bus t b) (ap (λ (u : Ran). u.requests) at_width) (heard_told 8 bus t r)
+    operand_heard : Told bus t b (sum_asks r w)
+    operand_heard = subst (Told bus t b) (ap (λ (u : Ran). u.requests) at_width) (heard_told 8 bus t r)
 
   module _ (k : Alu) (n : ℕ) where
     effect_is : (w : Bool) → Told bus t b (sum_asks r w) → Operand bus t r n w
@@ -106,20 +106,20 @@ module _ (bus : Bus) (t : ℕ) (r : Record) (well : well_formed r ≡ true) (sta
     effect_is true q p =
         let low : b 1 ≡ low_of n = q.1.0 ∙ p.0 in
         let high : b 2 ≡ high_of n = q.1.1.0 ∙ p.1 in
-        effect-16 r b (Read k A) 1 (rw low (omega arith))
+        effect_16 r b (Read k A) 1 (rw low (omega arith))
         ∙ ap (λ (v : ℕ). with A (operated_at k true r.a v r.flags) (regs_of r)) (rw (low, high) (whole n))
     effect_is false q p =
         let only : b 1 ≡ n = q.1.0 ∙ p.0 in
-        effect-8 r b (Read k A) 1 (rw only p.1)
+        effect_8 r b (Read k A) 1 (rw only p.1)
         ∙ ap (λ (v : ℕ). with A (operated_at k false r.a v r.flags) (regs_of r)) only
 
-    pub goes-sum : decode_of (bus t (O (place r 0))) ≡ Listed Immediate (Read k A) → (w : Bool) → r.flags.memsel ≡ not w
+    pub goes_sum : decode_of (bus t (O (place r 0))) ≡ Listed Immediate (Read k A) → (w : Bool) → r.flags.memsel ≡ not w
         → Operand bus t r n w → Goes bus t r (summed r k n w) (sum_asks r w)
     unfolding ended
-    goes-sum h w wide p =
+    goes_sum h w wide p =
         let e = at_width k h w wide in record {
           requests = ap (λ (u : Ran). u.requests) e;
           out =
               ap (λ (u : Ran). u.out) e
-              ∙ ap (λ (g : Regs). Next (ended 0 false r.pbr (up r.pc (pick w 3 2)) r.s r.dbr g)) (effect_is w (operand-heard k h w wide) p);
+              ∙ ap (λ (g : Regs). Next (ended 0 false r.pbr (up r.pc (pick w 3 2)) r.s r.dbr g)) (effect_is w (operand_heard k h w wide) p);
         }

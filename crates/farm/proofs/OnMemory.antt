@@ -55,19 +55,19 @@ through_both m a b r s u x y =
 -- ---- a cycle that reads inside the memory
 module _ (m : List ℕ) (whole : length m ≡ size) (r s : Record) (q : Request) (asks : request_of r ≡ Ask q) (goes : answer_of r (bus_byte q m) ≡ Next s)
     (read : q.write ≡ false) (inside : q.addr < size) where
-  cycle-done : cycle_of r m ≡ Done (crossed q (bus_byte q m)) s
+  cycle_done : cycle_of r m ≡ Done (crossed q (bus_byte q m)) s
   unfolding cycle_of request_of answer_of
-  cycle-done =
+  cycle_done =
       ap (λ (a : Asked). over a (micro_of r) r m) asks
       ∙ ap (λ (t : Bool). pick t (Stop Bank) (answered (crossed q (bus_byte q m)) (answered_by (micro_of r) r (bus_byte q m))))
       (lt-leb (length m) q.addr (rw whole inside))
       ∙ ap (answered (crossed q (bus_byte q m))) goes
 
-  through-cycle : (n : ℕ) (u : Record) → Through m n s u → Through m (suc n) r u
-  through-cycle n u x =
+  through_cycle : (n : ℕ) (u : Record) → Through m n s u → Through m (suc n) r u
+  through_cycle n u x =
       let kept : store_line (crossed q (bus_byte q m)) m ≡ m = rw read in
       let e : run_of (suc n) r m ≡ more (crossed q (bus_byte q m)) (run_of n s m) =
-      run_done n r s m _ cycle-done ∙ ap (λ (v : List ℕ). more (crossed q (bus_byte q m)) (run_of n s v)) kept in
+      run_done n r s m _ cycle_done ∙ ap (λ (v : List ℕ). more (crossed q (bus_byte q m)) (run_of n s v)) kept in
       record {
         number = ap (λ (v : End). v.number) e ∙ x.number;
         rec = ap (λ (v : End). v.rec) e ∙ x.rec;
@@ -95,37 +95,37 @@ in_memory p a e h = omega (arith, e)
 
 module _ (m : List ℕ) (whole : length m ≡ size) where
   -- by whether the instruction ends with this cycle
-  through-pick : (n t : ℕ) (r s u : Record) (q : Request) (e : Bool) → request_of r ≡ Ask q → answer_of r (bus_byte q m) ≡ Next s
+  through_pick : (n t : ℕ) (r s u : Record) (q : Request) (e : Bool) → request_of r ≡ Ask q → answer_of r (bus_byte q m) ≡ Next s
       → ((run n (heard (lent m) (suc t) s) s).out ≡ Next u → Reads 0 (run n (heard (lent m) (suc t) s) s).requests
       → Through m (length (run n (heard (lent m) (suc t) s) s).requests) s u)
       → let v : Ran = pick e (only q (Next s)) (also q (run n (heard (lent m) (suc t) s) s)) in
       v.out ≡ Next u → Reads 0 v.requests → Through m (length v.requests) r u
-  through-pick n t r s u q true asks goes go out x =
-      through-cycle m whole r s q asks goes x.0 (in_memory x.1 q.addr x.2 x.3) 0 u
+  through_pick n t r s u q true asks goes go out x =
+      through_cycle m whole r s q asks goes x.0 (in_memory x.1 q.addr x.2 x.3) 0 u
       (subst (Through m 0 s) (same_record s u out) (through_none m s))
-  through-pick n t r s u q false asks goes go out x =
-      through-cycle m whole r s q asks goes x.0 (in_memory x.1 q.addr x.2 x.3) _ u (go out x.4)
+  through_pick n t r s u q false asks goes go out x =
+      through_cycle m whole r s q asks goes x.0 (in_memory x.1 q.addr x.2 x.3) _ u (go out x.4)
 
   -- by what is asked and answered
-  through-after : (n t : ℕ) (r u : Record) (q : Asked) (a : Answer) → request_of r ≡ q → answer_of r (reply (lent m) t q) ≡ a
+  through_after : (n t : ℕ) (r u : Record) (q : Asked) (a : Answer) → request_of r ≡ q → answer_of r (reply (lent m) t q) ≡ a
       → ((s : Record) → (run n (heard (lent m) (suc t) s) s).out ≡ Next u → Reads 0 (run n (heard (lent m) (suc t) s) s).requests
       → Through m (length (run n (heard (lent m) (suc t) s) s).requests) s u)
       → let v : Ran = after q a (run n (heard (lent m) (suc t) (left r a))) in
       v.out ≡ Next u → Reads 0 v.requests → Through m (length v.requests) r u
   unfolding accepts
-  through-after n t r u (No k) a asks goes go out x = absurd (not_refused u (Refused k) refl out)
-  through-after n t r u (Ask q) (Refused k) asks goes go out x = absurd (not_refused u (Refused k) refl out)
-  through-after n t r u (Ask q) (Next s) asks goes go out x = through-pick n t r s u q (at_boundary s) asks goes (go s) out x
+  through_after n t r u (No k) a asks goes go out x = absurd (not_refused u (Refused k) refl out)
+  through_after n t r u (Ask q) (Refused k) asks goes go out x = absurd (not_refused u (Refused k) refl out)
+  through_after n t r u (Ask q) (Next s) asks goes go out x = through_pick n t r s u q (at_boundary s) asks goes (go s) out x
 
-  through-run : (n t : ℕ) (r u : Record) → (run n (heard (lent m) t r) r).out ≡ Next u → Reads 0 (run n (heard (lent m) t r) r).requests
+  through_run : (n t : ℕ) (r u : Record) → (run n (heard (lent m) t r) r).out ≡ Next u → Reads 0 (run n (heard (lent m) t r) r).requests
       → Through m (length (run n (heard (lent m) t r) r).requests) r u
   unfolding run heard
-  through-run zero t r u out x = subst (Through m 0 r) (same_record r u out) (through_none m r)
-  through-run (suc n) t r u out x =
-      through-after n t r u (request_of r) (answer_of r (reply (lent m) t (request_of r))) refl refl (λ s. through-run n (suc t) s u) out x
+  through_run zero t r u out x = subst (Through m 0 r) (same_record r u out) (through_none m r)
+  through_run (suc n) t r u out x =
+      through_after n t r u (request_of r) (answer_of r (reply (lent m) t (request_of r))) refl refl (λ s. through_run n (suc t) s u) out x
 
   -- an instruction that is known to go
-  pub through-goes : (t : ℕ) (r s : Record) (qs : List Request) → Goes (lent m) t r s qs → Reads 0 qs → Through m (length qs) r s
-  through-goes t r s qs g x =
+  pub through_goes : (t : ℕ) (r s : Record) (qs : List Request) → Goes (lent m) t r s qs → Reads 0 qs → Through m (length qs) r s
+  through_goes t r s qs g x =
       subst (λ (l : List Request). Through m (length l) r s) g.requests
-      (through-run 8 t r s g.out (subst (Reads 0) (sym g.requests) x))
+      (through_run 8 t r s g.out (subst (Reads 0) (sym g.requests) x))

@@ -10,7 +10,7 @@ use Rattle.alu.specs.Alu.{operated_at, adc_byte, sbc_byte, summed}
 use Rattle.alu.specs.declared.types.Alu.{Alu}
 use Rattle.alu.specs.declared.types.Alu.TheVariants.{Adc, Sbc}
 use Rattle.alu.specs.declared.types.Word.{Word}
-use Rattle.alu.proofs.At8And16.{adc-decimal-8, sbc-decimal-8, adc-decimal-16, sbc-decimal-16}
+use Rattle.alu.proofs.At8And16.{adc_decimal_8, sbc_decimal_8, adc_decimal_16, sbc_decimal_16}
 use Rattle.cpu.specs.Record.{widths_set}
 use Rattle.farm.specs.Pairs.{Delivery, Added, Taken, amount, bytes_of, modulus, adds, takes, wraps_up, wraps_down}
 
@@ -60,14 +60,14 @@ difference_counts M v a n k c t e f h = omega (arith, h, f, ap (λ (x : Bool). b
 pub sums : (w : Bool) (d : Delivery) (a : ℕ) (f : Flags) → f.decimal ≡ true → f.carry ≡ carry_for d → Digits (bytes_of w) (narrow w a)
     → Digits (bytes_of w) (amount d) → Sums w d a (operated_at (alu_for d) w a (amount d) f)
 sums true (Added n) a f m c p q =
-    let k = adc-decimal-16 a n f m p q in record { digits = k.bytes; same = sum_counts _ _ _ _ _ f.carry (operated_at Adc true a n f).flags.carry c refl k.same }
+    let k = adc_decimal_16 a n f m p q in record { digits = k.bytes; same = sum_counts _ _ _ _ _ f.carry (operated_at Adc true a n f).flags.carry c refl k.same }
 sums true (Taken n) a f m c p q =
-    let k = sbc-decimal-16 a n f m p q in record { digits = k.bytes; same = difference_counts _ _ _ _ _ f.carry (operated_at Sbc true a n f).flags.carry c refl k.same }
+    let k = sbc_decimal_16 a n f m p q in record { digits = k.bytes; same = difference_counts _ _ _ _ _ f.carry (operated_at Sbc true a n f).flags.carry c refl k.same }
 sums false (Added n) a f m c p q =
     let small : n % 256 ≡ n = omega (arith, byte_small n q) in
-    let k = adc-decimal-8 a n f m p (rw small q) in
+    let k = adc_decimal_8 a n f m p (rw small q) in
     record { digits = k.bytes; same = sum_counts _ _ _ _ _ f.carry (operated_at Adc false a n f).flags.carry c (ap (value 1) small) k.same }
 sums false (Taken n) a f m c p q =
     let small : n % 256 ≡ n = omega (arith, byte_small n q) in
-    let k = sbc-decimal-8 a n f m p (rw small q) in
+    let k = sbc_decimal_8 a n f m p (rw small q) in
     record { digits = k.bytes; same = difference_counts _ _ _ _ _ f.carry (operated_at Sbc false a n f).flags.carry c (ap (value 1) small) k.same }

@@ -37,6 +37,6 @@ pub record FiguresHold : Type 0 where
   pub wide : sample true tank16 (Added 0x0010 ∷ Taken 0x1006 ∷ Added 0x0001 ∷ []) ≡ 0x9000 ∷ 0x0009 ∷ 1 ∷ 1 ∷ 15 ∷ []
   pub none : sample true tank16 [] ≡ 0x9995 ∷ 0xFFFD ∷ 0 ∷ 0 ∷ 0 ∷ []
   -- such records are ready
-  pub ready-8 : Ready false tank8
-  pub ready-e : Ready false tank_e
-  pub ready-16 : Ready true tank16
+  pub ready_8 : Ready false tank8
+  pub ready_e : Ready false tank_e
+  pub ready_16 : Ready true tank16

@@ -3,8 +3,9 @@ use drill::figure::{figure, show};
 use drill::say::start;
 
 // P: M is 20, X 10, D 08, C 01.
-pub fn decimal_sums() {
+pub fn decimal_sums(rt: &impl Print) {
     show(
+        rt,
         b"decimal, 8 bit: 99 + 01, C 0",
         false,
         0xF8,
@@ -14,6 +15,7 @@ pub fn decimal_sums() {
         b"\x69\x01",
     );
     show(
+        rt,
         b"decimal, 16 bit: 9999 + 0001, C 0",
         false,
         0x08,
@@ -24,8 +26,9 @@ pub fn decimal_sums() {
     );
 }
 
-pub fn decimal_bytes() {
+pub fn decimal_bytes(rt: &impl Print) {
     show(
+        rt,
         b"decimal, 8 bit: 00 - 01, C 1",
         false,
         0x79,
@@ -35,6 +38,7 @@ pub fn decimal_bytes() {
         b"\xE9\x01",
     );
     show(
+        rt,
         b"decimal, 8 bit: 0F + 0F, C 1",
         false,
         0x39,
@@ -45,8 +49,9 @@ pub fn decimal_bytes() {
     );
 }
 
-pub fn binary() {
+pub fn binary(rt: &impl Print) {
     show(
+        rt,
         b"binary, 8 bit: 7F + 01, C 0",
         false,
         0x30,
@@ -56,6 +61,7 @@ pub fn binary() {
         b"\x69\x01",
     );
     show(
+        rt,
         b"CMP 16 bit, 1234 with 1235",
         false,
         0x03,
@@ -66,8 +72,9 @@ pub fn binary() {
     );
 }
 
-pub fn exchange() {
+pub fn exchange(rt: &impl Print) {
     show(
+        rt,
         b"XBA on 8000",
         false,
         0x32,
@@ -79,8 +86,9 @@ pub fn exchange() {
 }
 
 // M and X unlike: the accumulator's width is M's.
-pub fn widths() {
+pub fn widths(rt: &impl Print) {
     show(
+        rt,
         b"LDA #, 16-bit accumulator, 8-bit index",
         false,
         0x10,
@@ -90,6 +98,7 @@ pub fn widths() {
         b"\xA9\x34\x12",
     );
     show(
+        rt,
         b"LDX #, 8-bit accumulator, 16-bit index",
         false,
         0x20,
@@ -101,8 +110,13 @@ pub fn widths() {
 }
 
 // Carry set after the ADC is a wrap up, carry clear after the SBC a wrap down.
-pub fn pairs() {
+pub fn pairs(rt: &impl Print) {
     let start = start(false, 0x38, 0x0095, 0x01FF, 0x8000);
-    let up = figure(b"pairs from 95: CLC, ADC #10", start, b"\x18\x00\x69\x10");
-    figure(b"then SEC, SBC #06", up, b"\x38\x00\xE9\x06");
+    let up = figure(
+        rt,
+        b"pairs from 95: CLC, ADC #10",
+        start,
+        b"\x18\x00\x69\x10",
+    );
+    figure(rt, b"then SEC, SBC #06", up, b"\x38\x00\xE9\x06");
 }

@@ -90,13 +90,13 @@ stays : (e t u : Bool) → e ≡ true → pick e t u ≡ t
 stays e t u q = rw q
 
 module _ (f : Flags) (e : f.emulation ≡ true) where
-  pub mask-keeps : (mask : ℕ) (set : Bool) → ((set_mask f mask set).memsel ≡ f.memsel) × ((set_mask f mask set).indexsel ≡ f.indexsel)
+  pub mask_keeps : (mask : ℕ) (set : Bool) → ((set_mask f mask set).memsel ≡ f.memsel) × ((set_mask f mask set).indexsel ≡ f.indexsel)
   unfolding set_mask
-  mask-keeps mask set = (stays f.emulation f.memsel _ e, stays f.emulation f.indexsel _ e)
+  mask_keeps mask set = (stays f.emulation f.memsel _ e, stays f.emulation f.indexsel _ e)
 
-  pub byte-keeps : (v : ℕ) → ((set_byte f v).memsel ≡ f.memsel) × ((set_byte f v).indexsel ≡ f.indexsel)
+  pub byte_keeps : (v : ℕ) → ((set_byte f v).memsel ≡ f.memsel) × ((set_byte f v).indexsel ≡ f.indexsel)
   unfolding set_byte
-  byte-keeps v = (stays f.emulation f.memsel _ e, stays f.emulation f.indexsel _ e)
+  byte_keeps v = (stays f.emulation f.memsel _ e, stays f.emulation f.indexsel _ e)
 
 -- ---- XCE: twice is never; entering emulation sets both width flags
 pub swapped_back : (f : Flags) → swap_ce (swap_ce f) ≡ f

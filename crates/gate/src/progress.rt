@@ -1,33 +1,29 @@
 // How far a long run is, where somebody looks on.
-use crate::say::say;
-use libc::{STDERR_FILENO, STDOUT_FILENO};
+use crate::say::mutter;
+use std::io::IsTerminal;
 use words::both;
 
 // Where standard output is a terminal a trace shows its own progress.
-pub fn is_shown(trace: bool) -> bool {
-    if libc::isatty(STDERR_FILENO) == 0 {
+pub fn is_shown(out: &impl IsTerminal, err: &impl IsTerminal, trace: bool) -> bool {
+    if !err.is_terminal() {
         return false;
     }
-    if trace {
-        libc::isatty(STDOUT_FILENO) == 0
-    } else {
-        true
-    }
+    if trace { !out.is_terminal() } else { true }
 }
 
 // At each 100,000 cycles.
-pub fn show(shown: bool, done: u32, budget: u32) {
+pub fn show(err: &impl Print, shown: bool, done: u32, budget: u32) {
     if both(shown, done % 100_000 == 0) {
-        say(STDERR_FILENO, b"\r");
-        io::print_decimal(STDERR_FILENO, done as u64);
-        say(STDERR_FILENO, b" of ");
-        io::print_decimal(STDERR_FILENO, budget as u64);
-        say(STDERR_FILENO, b" cycles");
+        mutter(err, b"\r");
+        let _ = err.print(done);
+        mutter(err, b" of ");
+        let _ = err.print(budget);
+        mutter(err, b" cycles");
     }
 }
 
-pub fn clear(shown: bool) {
+pub fn clear(err: &impl Print, shown: bool) {
     if shown {
-        say(STDERR_FILENO, b"\r                           \r");
+        mutter(err, b"\r                           \r");
     }
 }

@@ -2,8 +2,9 @@
 use drill::figure::{figure, show};
 
 // P: M is 20, X 10.
-pub fn long_branch() {
+pub fn long_branch(rt: &impl Print) {
     show(
+        rt,
         b"BRL at 0000, displacement FFFD",
         false,
         0x30,
@@ -14,8 +15,9 @@ pub fn long_branch() {
     );
 }
 
-pub fn across_a_page() {
+pub fn across_a_page(rt: &impl Print) {
     show(
+        rt,
         b"BRA at 80FD, displacement 01, emulation",
         true,
         0x30,
@@ -25,6 +27,7 @@ pub fn across_a_page() {
         b"\x80\x01\x00\x00",
     );
     show(
+        rt,
         b"BRA at 80FD, displacement 01, native",
         false,
         0x30,
@@ -35,8 +38,9 @@ pub fn across_a_page() {
     );
 }
 
-pub fn inside_a_page() {
+pub fn inside_a_page(rt: &impl Print) {
     show(
+        rt,
         b"BRA at 80FC, displacement 01, emulation",
         true,
         0x30,
@@ -46,6 +50,7 @@ pub fn inside_a_page() {
         b"\x80\x01\x00",
     );
     show(
+        rt,
         b"BRA at 80FC, displacement 01, native",
         false,
         0x30,
@@ -56,8 +61,9 @@ pub fn inside_a_page() {
     );
 }
 
-pub fn returns() {
+pub fn returns(rt: &impl Print) {
     show(
+        rt,
         b"RTL, emulation, S 01FE",
         true,
         0x30,
@@ -67,6 +73,7 @@ pub fn returns() {
         b"\x6B\x00\x00\x34\x12\x00",
     );
     show(
+        rt,
         b"RTS, emulation, S 01FE",
         true,
         0x30,
@@ -77,13 +84,15 @@ pub fn returns() {
     );
 }
 
-pub fn addresses() {
+pub fn addresses(rt: &impl Print) {
     figure(
+        rt,
         b"LDA absolute 16 bit, DBR 01, FFFF",
         packed::bytes::start(0, 0, 0, 0x01FF, 0, 0x8000, 0, 1, 0x00, false),
         b"\xAD\xFF\xFF\x78\x56",
     );
     show(
+        rt,
         b"BIT immediate C0, A 3F, 8 bit, N and V set",
         false,
         0xF0,
@@ -93,6 +102,7 @@ pub fn addresses() {
         b"\x89\xC0",
     );
     show(
+        rt,
         b"JMP (FFFF)",
         false,
         0x30,
@@ -103,8 +113,9 @@ pub fn addresses() {
     );
 }
 
-pub fn refused() {
+pub fn refused(rt: &impl Print) {
     show(
+        rt,
         b"an opcode that isn't listed",
         false,
         0x30,
@@ -114,6 +125,7 @@ pub fn refused() {
         b"\x00",
     );
     show(
+        rt,
         b"a record that isn't well formed: emulation, S 0200",
         true,
         0x30,

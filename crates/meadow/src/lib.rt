@@ -1,4 +1,6 @@
 // Random deliveries as a program in a memory: a part of the program `deliveries`.
+#![tactic(auto)]
+
 ghost use Rattle.std.specs.Prelude.{◌<◌};
 
 // Knuth's line of random numbers for 32 bits.

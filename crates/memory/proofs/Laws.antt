@@ -57,8 +57,8 @@ inside q m r mem e h = ap (λ (a : Asked). over a m r mem) e ∙ ap (λ (t : Boo
 
 -- ---- the fetch
 module _ (r : Record) (mem : List ℕ) (p : ℕ) (e : p ≡ here r) where
-  pub fetch-outside : length mem ≤ p → Stop Bank ≡ turn_by Fetch r mem
-  fetch-outside h = outside (reads kind.Opcode (here r)) Fetch r mem refl (subst (λ (z : ℕ). length mem ≤ z) e h)
+  pub fetch_outside : length mem ≤ p → Stop Bank ≡ turn_by Fetch r mem
+  fetch_outside h = outside (reads kind.Opcode (here r)) Fetch r mem refl (subst (λ (z : ℕ). length mem ≤ z) e h)
 
   module _ (h : p < length mem) (b : ℕ) (f : b ≡ get_or mem p 0) (a : Answer) (g : a ≡ begun (decode_of b) r b) where
     heard : b ≡ bus_byte (reads kind.Opcode (here r)) mem
@@ -70,11 +70,11 @@ module _ (r : Record) (mem : List ℕ) (p : ℕ) (e : p ≡ here r) where
     whole : turn_by Fetch r mem ≡ inside_by (reads kind.Opcode (here r)) Fetch r mem
     whole = inside (reads kind.Opcode (here r)) Fetch r mem refl (subst (λ (z : ℕ). z < length mem) e h)
 
-    pub fetch-stop : (n k : Refusal) → a ≡ Refused n → k ≡ refusal_of a → Stop k ≡ turn_by Fetch r mem
-    fetch-stop n k x y = stopped _ n k a _ told x y ∙ sym whole
+    pub fetch_stop : (n k : Refusal) → a ≡ Refused n → k ≡ refusal_of a → Stop k ≡ turn_by Fetch r mem
+    fetch_stop n k x y = stopped _ n k a _ told x y ∙ sym whole
 
-    pub fetch-done : (q l : Request) (s : Record) → a ≡ Next s → q ≡ reads kind.Opcode p → l ≡ crossed q b → Done l s ≡ turn_by Fetch r mem
-    fetch-done q l s x y z =
+    pub fetch_done : (q l : Request) (s : Record) → a ≡ Next s → q ≡ reads kind.Opcode p → l ≡ crossed q b → Done l s ≡ turn_by Fetch r mem
+    fetch_done q l s x y z =
         went l _ s a _ (z ∙ ap (λ (v : Request). crossed v b) (y ∙ ap (reads kind.Opcode) e) ∙ ap (crossed (reads kind.Opcode (here r))) heard) told x ∙ sym whole
 
 -- it stores nothing
@@ -91,12 +91,12 @@ fetch_keeps r mem t e =
 
 -- ---- a held opcode's cycle
 module _ (q : ask.Ask) (k : Move) (c : Change) (d : To) (o : Operation) (r : Record) (mem : List ℕ) (p : Request) (e : p ≡ ask_of q o r) where
-  pub held-outside : length mem ≤ p.addr → Stop Bank ≡ turn_by (Held q k c d o) r mem
-  held-outside h = outside (ask_of q o r) (Held q k c d o) r mem refl (subst (λ (z : Request). length mem ≤ z.addr) e h)
+  pub held_outside : length mem ≤ p.addr → Stop Bank ≡ turn_by (Held q k c d o) r mem
+  held_outside h = outside (ask_of q o r) (Held q k c d o) r mem refl (subst (λ (z : Request). length mem ≤ z.addr) e h)
 
-  pub held-done : p.addr < length mem → (b : ℕ) (l : Request) (s : Record) → b ≡ bus_byte p mem → l ≡ crossed p b → s ≡ act_of k c d o r l.byte
+  pub held_done : p.addr < length mem → (b : ℕ) (l : Request) (s : Record) → b ≡ bus_byte p mem → l ≡ crossed p b → s ≡ act_of k c d o r l.byte
       → Done l s ≡ turn_by (Held q k c d o) r mem
-  held-done h b l s f g n =
+  held_done h b l s f g n =
       let byte : l.byte ≡ bus_byte (ask_of q o r) mem = ap (λ (z : Request). z.byte) g ∙ f ∙ ap (λ (z : Request). bus_byte z mem) e in
       went l (crossed (ask_of q o r) (bus_byte (ask_of q o r) mem)) s (Next s) _
       (line_of p l mem b f g ∙ ap (λ (z : Request). crossed z (bus_byte z mem)) e)

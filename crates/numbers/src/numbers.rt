@@ -1,6 +1,6 @@
 // What is asked, and how a run ended, each in one number.
 ghost use Rattle.std.specs.Prelude.{◌≡◌, ◌≤◌};
-ghost use Rattle.step.specs.Answers.{kindNumber};
+ghost use Rattle.step.specs.Answers.{kind_number};
 ghost use Rattle.numbers.specs.Numbers.{asked_bits, run_number};
 
 use cpu::record::number;
@@ -8,7 +8,7 @@ use cpu::types::{Asked, Kind};
 use words::one_if;
 
 fn kind_number(k: Kind) -> u8
-    ensures { result ≡ kindNumber k }
+    ensures { result ≡ kind_number k }
 {
     match k {
         Kind::Opcode => 0,

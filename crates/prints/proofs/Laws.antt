@@ -60,17 +60,17 @@ module _ (t t' : List ℕ) (m : Mark) (q : ℕ) (d : Dial) (k : Kind) (w : Bool)
   abbrev near : Dial → List ℕ
   near e = near_text e.front (e.width % 8) e.last (marks_of k w) p b
 
-  near-small : length (near m.dial) ≤ 23
-  near-small = omega (arith, near_length m.dial.front (m.dial.width % 8) m.dial.last (marks_of k w) p b)
+  near_small : length (near m.dial) ≤ 23
+  near_small = omega (arith, near_length m.dial.front (m.dial.width % 8) m.dial.last (marks_of k w) p b)
 
-  pub drawn-line : Drawn t t' m (mark d q) (line ∷ [])
-  drawn-line =
+  pub drawn_line : Drawn t t' m (mark d q) (line ∷ [])
+  drawn_line =
       let f : Wrote t t' m.place q (near m.dial) =
       subst (Wrote t t' m.place q) (row_near m.dial.front (m.dial.width % 8) m.dial.last (marks_of k w) p b low small) put in
       record {
         wrote = subst (Wrote t t' m.place q) (sym (append_nil (near m.dial))) f;
         dial = turns;
-        near = omega (arith, near-small, f.place);
+        near = omega (arith, near_small, f.place);
         size = wrote_length f;
       }
 
@@ -87,8 +87,8 @@ up_to_two t t' m o k q u e f d =
 
 -- all of it, or nothing
 module _ (p : ℕ) (t m : List ℕ) where
-  pub ready-parts : ready p t m ≡ true → (p + 161 ≤ length t) × (length m ≡ 65536)
-  ready-parts e = (leb-true _ _ (left (leb (p + 161) (length t)) (eqb (length m) 65536) e), eqb-true _ _ (right (leb (p + 161) (length t)) (eqb (length m) 65536) e))
+  pub ready_parts : ready p t m ≡ true → (p + 161 ≤ length t) × (length m ≡ 65536)
+  ready_parts e = (leb-true _ _ (left (leb (p + 161) (length t)) (eqb (length m) 65536) e), eqb-true _ _ (right (leb (p + 161) (length t)) (eqb (length m) 65536) e))
     where
       left : (a b : Bool) → (a && b) ≡ true → a ≡ true
       left true b h = refl
@@ -99,12 +99,12 @@ module _ (p : ℕ) (t m : List ℕ) where
       right false true h = refl
       right false false h = h
 
-  ready-is : p + 161 ≤ length t → length m ≡ 65536 → ready p t m ≡ true
-  ready-is h e = rw (le-leb _ _ h, eq-eqb _ _ e)
+  ready_is : p + 161 ≤ length t → length m ≡ 65536 → ready p t m ≡ true
+  ready_is h e = rw (le-leb _ _ h, eq-eqb _ _ e)
 
 pub drawn_ready : (t t' k : List ℕ) (m o : Mark) (ls : List Request) → Drawn t t' m o (pick (ready m.place t k) ls []) → m.place + 161 ≤ length t → length k ≡ 65536
     → Drawn t t' m o ls
-drawn_ready t t' k m o ls d h e = subst (λ (v : Bool). Drawn t t' m o (pick v ls [])) (ready-is m.place t k h e) d
+drawn_ready t t' k m o ls d h e = subst (λ (v : Bool). Drawn t t' m o (pick v ls [])) (ready_is m.place t k h e) d
 
 -- ---- lines in bank 0 are the trace's
 

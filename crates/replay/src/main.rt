@@ -1,84 +1,97 @@
 // Replays a file of single instructions, named by the argument, through `request` and `answer`: prints each line that differs and totals.
 // One case a line; crates/lines has the format, crates/course what is compared.
+#![tactic(auto)]
+
+use gate::args::{get, path};
+use gate::reason::explain;
 use lines::types::Tally;
+use std::fs::File;
+use std::io;
+use std::io::Read;
+use std::rt::Files;
 use thresh::tally::{finish, take_bytes};
 use verdict::report::say;
 
 // What one read of the file came to.
-#[derive(Clone, Copy)]
+#[derive(Drop)]
 enum Reading {
     More(Tally),
     End(Tally),
-    Failed,
+    Failed(io::Error),
 }
 
-fn turn(fd: i32, t: Tally, room: &mut [u8], counts: &mut [u64; 512]) -> Reading {
-    let mut bytes = io::buffer();
-    let got = libc::read(fd, &mut bytes);
-    if got < 0 {
-        return Reading::Failed;
-    }
-    if got == 0 {
-        return Reading::End(t);
-    }
-    let n = io::count(got, &bytes);
-    Reading::More(take_bytes(t, &bytes[..n], room, counts))
+fn turn(
+    rt: &HostRuntime,
+    file: &mut impl Read,
+    t: Tally,
+    room: &mut [u8],
+    counts: &mut [u64; 512],
+) -> Reading {
+    let mut bytes = [0u8; 4096];
+    let n = match file.read(&mut bytes) {
+        Ok(0) => return Reading::End(t),
+        Ok(n) => n,
+        Err(why) => return Reading::Failed(why),
+    };
+    Reading::More(take_bytes(rt, &rt.stderr(), t, &bytes[..n], room, counts))
 }
 
-// Nothing says that a file ends, so the turns are counted down from a number that no run uses up.
-fn read_all(fd: i32, room: &mut [u8], counts: &mut [u64; 512]) -> Reading {
+// Nothing says that a file ends, so the turns are at most a number that no run uses up.
+fn read_all(
+    rt: &HostRuntime,
+    file: &mut impl Read,
+    room: &mut [u8],
+    counts: &mut [u64; 512],
+) -> Reading {
     let mut t = lines::tally::start();
-    let mut turns = u64::MAX;
-    while turns > 0 {
-        let got = turn(fd, t, room, counts);
+    for _ in 0..u64::MAX {
+        let got = turn(rt, file, t, room, counts);
         let Reading::More(next) = got else {
             return got;
         };
         t = next;
-        turns -= 1;
     }
     Reading::End(t)
 }
 
-fn refuse(why: &[u8], path: &[u8]) {
-    os::fail(path);
-    say(b"refused: ");
-    say(why);
-    say(path);
-    say(b"\n");
+fn refuse(rt: &HostRuntime, what: &[u8], name: &[u8], why: io::Error) {
+    explain(&rt.stderr(), name, why);
+    say(rt, b"refused: ");
+    say(rt, what);
+    say(rt, name);
+    say(rt, b"\n");
 }
 
-fn replay(fd: i32, path: &[u8]) {
+fn replay(rt: &HostRuntime, file: &mut impl Read, name: &[u8]) {
     let mut room = [0u8; 1024];
     let mut counts = [0u64; 512];
-    let end = read_all(fd, &mut room, &mut counts);
+    let end = read_all(rt, file, &mut room, &mut counts);
     match end {
         Reading::More(_) => (),
-        Reading::End(t) => finish(t, &room, &mut counts),
-        Reading::Failed => refuse(b"cannot read ", path),
+        Reading::End(t) => finish(rt, &rt.stderr(), t, &room, &mut counts),
+        Reading::Failed(why) => refuse(rt, b"cannot read ", name, why),
     }
 }
 
-fn replay_named(path: &[u8]) {
-    let fd = os::open_read(path);
-    if fd < 0 {
-        refuse(b"cannot open ", path);
-        return;
-    }
-    replay(fd, path);
-    libc::close(fd);
+fn open<R: Files>(rt: &R, name: &[u8]) -> io::Result<R::File> {
+    File::open(rt, path(name)?)
 }
 
-fn main() {
-    if os::arg_count() != 2 {
-        say(b"usage: replay FILE\n");
+fn replay_named(rt: &HostRuntime, name: &[u8]) {
+    match open(rt, name) {
+        Ok(mut file) => replay(rt, &mut file, name),
+        Err(why) => refuse(rt, b"cannot open ", name, why),
+    }
+}
+
+fn main(rt: HostRuntime) {
+    if gate::args::count(&rt) != 2 {
+        say(&rt, b"usage: replay FILE\n");
         return;
     }
-    let mut path = io::buffer();
-    let n = os::arg(1, &mut path);
-    if os::errno() != 0 {
-        refuse(b"cannot open ", b"a name of more than 4096 bytes");
-        return;
+    let mut name = [0u8; 4096];
+    match get(&rt, 1, &mut name) {
+        Ok(n) => replay_named(&rt, &name[..n]),
+        Err(why) => refuse(&rt, b"cannot open ", b"a name of more than 4096 bytes", why),
     }
-    replay_named(&path[..n]);
 }

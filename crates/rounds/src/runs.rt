@@ -9,20 +9,30 @@ fn start(p: u8, a: u16) -> Record {
 }
 
 // MVN in bank 0, from X on to Y on.
-fn moved(name: &[u8], p: u8, a: u16, x: u16, y: u16, mem: &mut [u8; 65536], budget: u32) {
+fn moved(
+    rt: &impl Print,
+    name: &[u8],
+    p: u8,
+    a: u16,
+    x: u16,
+    y: u16,
+    mem: &mut [u8; 65536],
+    budget: u32,
+) {
     let r = packed::bytes::start(a, x, y, 0x01FF, 0, 0x8000, 0, 0, p, false);
-    say_run(name, run(r, mem, budget));
+    say_run(rt, name, run(r, mem, budget));
 }
 
-pub fn moves() {
+pub fn moves(rt: &impl Print) {
     let mut mem = [0u8; 65536];
     mem[0x8000] = 0x54;
     mem[0x1000] = 101;
     mem[0x1001] = 102;
-    moved(b"MVN with A 0000", 0x00, 0, 0x1000, 0x2000, &mut mem, 7);
-    say_byte(b"  byte at 2000: ", mem[0x2000]);
-    say_byte(b"  byte at 2001: ", mem[0x2001]);
+    moved(rt, b"MVN with A 0000", 0x00, 0, 0x1000, 0x2000, &mut mem, 7);
+    say_byte(rt, b"  byte at 2000: ", mem[0x2000]);
+    say_byte(rt, b"  byte at 2001: ", mem[0x2001]);
     moved(
+        rt,
         b"MVN with A FFFF, each byte onto itself",
         0x00,
         0xFFFF,
@@ -32,6 +42,7 @@ pub fn moves() {
         458752,
     );
     moved(
+        rt,
         b"the same, 8 bits wide",
         0x30,
         0xFFFF,
@@ -41,6 +52,7 @@ pub fn moves() {
         458752,
     );
     moved(
+        rt,
         b"MVN, 8-bit index, X FF, one byte of two",
         0x30,
         1,
@@ -52,20 +64,21 @@ pub fn moves() {
 }
 
 // What was written before a refusal stays.
-pub fn written() {
+pub fn written(rt: &impl Print) {
     let mut mem = [0u8; 65536];
     mem[0x8000] = 0x85;
     mem[0x8001] = 0x10;
     say_run(
+        rt,
         b"STA 10, then a byte that isn't listed",
         run(start(0x30, 0x0042), &mut mem, 10),
     );
-    say_byte(b"  byte at 0010: ", mem[0x0010]);
-    internal(&mut mem);
+    say_byte(rt, b"  byte at 0010: ", mem[0x0010]);
+    internal(rt, &mut mem);
 }
 
 // An internal cycle outside bank 0 is refused like any other.
-fn internal(mem: &mut [u8; 65536]) {
+fn internal(rt: &impl Print, mem: &mut [u8; 65536]) {
     let nop = Record {
         held: true,
         ir: 0xEA,
@@ -73,5 +86,9 @@ fn internal(mem: &mut [u8; 65536]) {
         pbr: 1,
         ..start(0x30, 0x0042)
     };
-    say_run(b"the internal cycle of NOP in bank 01", run(nop, mem, 10));
+    say_run(
+        rt,
+        b"the internal cycle of NOP in bank 01",
+        run(nop, mem, 10),
+    );
 }

@@ -30,9 +30,9 @@ use Rattle.quick.specs.Quick.{quickened, quick_of, test_in, want_in, goes}
 use Rattle.sheet.specs.Run.{run}
 use Rattle.sheet.specs.Sheet.{sheet, row, instruction}
 use Rattle.sheet.proofs.Walk.{false_true, and_left, and_right}
-use Rattle.sheet.proofs.Demand2.{demand_2, between-bytes}
+use Rattle.sheet.proofs.Demand2.{demand_2, between_bytes}
 use Rattle.run.specs.Runs.{run_of, size}
-use Rattle.stride.specs.Strides.{fresh, there, operand, inside, opcode, legBy, memBy, legOf, mem_of, arrived, placed, storing, branching, spot_of, reading, stretch, stride_of, stride_mem}
+use Rattle.stride.specs.Strides.{fresh, there, operand, inside, opcode, leg_by, mem_by, leg_of, mem_of, arrived, placed, storing, branching, spot_of, reading, stretch, stride_of, stride_mem}
 use Rattle.haul.specs.Hauls.{between, near, hauled, carried, hauls, haul_of, haul_mem}
 use Rattle.tracks.specs.Tracks.{track_by, track_of, track_lines, place_by, stride_lines, haul_lines}
 use Rattle.tracks.specs.declared.types.Track.{Track}
@@ -45,7 +45,7 @@ use Rattle.quick.specs.declared.types.Mode.TheVariants as mode
 use Rattle.quick.specs.declared.types.Quick.{Quick}
 use Rattle.quick.specs.declared.types.Quick.TheVariants as quick
 use Rattle.sheet.proofs.Kept.{well_ended}
-use Rattle.run.proofs.Strides.{directBus, storeBus, immediate-leaves, direct-leaves, absolute-leaves, store-direct-leaves, store-absolute-leaves, do-leaves, jump-leaves, branch_leaves, move-leaves}
+use Rattle.run.proofs.Strides.{direct_bus, store_bus, immediate_leaves, direct_leaves, absolute_leaves, store_direct_leaves, store_absolute_leaves, do_leaves, jump_leaves, branch_leaves, move_leaves}
 
 -- ---- shapes that read have operations that do, and likewise those that store
 abbrev is_read : Operation → Bool
@@ -134,16 +134,16 @@ module _ (r : Record) (m : List ℕ) (whole : length m ≡ size) (well : well_fo
   op = there r m r.pc
 
   -- the lines of a track
-  abbrev linesBy : Track → (n : ℕ) → List ℕ → List Request
-  linesBy t n k =
+  abbrev lines_by : Track → (n : ℕ) → List ℕ → List Request
+  lines_by t n k =
       track_lines t (unaligned r.d) op (there r m (up r.pc 1)) (there r m (up r.pc 2)) r.pc
       (place_by t r.d (there r m (up r.pc 1)) (there r m (up r.pc 2))) n k
 
   -- what is to be shown of an opcode
   abbrev Stride : ℕ → Op → Type 0
-  Stride i q = ((legBy r m (quickened q)).cycles ≡ 0 → ⊥)
-      → Leaves (legBy r m (quickened q)).cycles r m (arrived i (legBy r m (quickened q))) (memBy r m (quickened q))
-      (linesBy (track_by (quickened q)) (legBy r m (quickened q)).cycles (memBy r m (quickened q)))
+  Stride i q = ((leg_by r m (quickened q)).cycles ≡ 0 → ⊥)
+      → Leaves (leg_by r m (quickened q)).cycles r m (arrived i (leg_by r m (quickened q))) (mem_by r m (quickened q))
+      (lines_by (track_by (quickened q)) (leg_by r m (quickened q)).cycles (mem_by r m (quickened q)))
 
   abbrev wide : Operation → Bool
   wide o = wide_of o r.flags.memsel r.flags.indexsel
@@ -159,109 +159,109 @@ module _ (r : Record) (m : List ℕ) (whole : length m ≡ size) (well : well_fo
     unfolding instruction
     row_is b s o e h = demand_2 r b well unheld small ∙ ap (λ (i : ℕ). row r b (decode_of i)) e ∙ ap (row r b) h
 
-    in-bank-0 : inside r m (operand r m) ≡ true → r.dbr ≡ 0
-    in-bank-0 i = eqb-true _ _ (and_left (eqb r.dbr 0) (ltb (operand r m) 65535) i)
+    in_bank_0 : inside r m (operand r m) ≡ true → r.dbr ≡ 0
+    in_bank_0 i = eqb-true _ _ (and_left (eqb r.dbr 0) (ltb (operand r m) 65535) i)
 
-    in-room : inside r m (operand r m) ≡ true → operand r m < 65535
-    in-room i = ltb-true _ _ (and_right (eqb r.dbr 0) (ltb (operand r m) 65535) i)
+    in_room : inside r m (operand r m) ≡ true → operand r m < 65535
+    in_room i = ltb-true _ _ (and_right (eqb r.dbr 0) (ltb (operand r m) 65535) i)
 
     -- an operand in the data bank, by whether it lies inside
-    absolute-read : (o : Operation) → is_read o ≡ true → decode_of op ≡ Listed Absolute o → (i : Bool) → inside r m (operand r m) ≡ i → Stride op (Listed Absolute o)
-    absolute-read (operation.Read k g) h d true i =
+    absolute_read : (o : Operation) → is_read o ≡ true → decode_of op ≡ Listed Absolute o → (i : Bool) → inside r m (operand r m) ≡ i → Stride op (Listed Absolute o)
+    absolute_read (operation.Read k g) h d true i =
         subst
         (λ (t : Bool). (pick t (4 + bit (wide (operation.Read k g))) 0 ≡ 0 → ⊥)
         → Leaves (pick t (4 + bit (wide (operation.Read k g))) 0) r m (arrived op (reading r m (spot_of r m mode.Absolute (wide (operation.Read k g))) k g (wide (operation.Read k g)))) m
-        (linesBy track.ReadAbsolute (pick t (4 + bit (wide (operation.Read k g))) 0) m))
+        (lines_by track.ReadAbsolute (pick t (4 + bit (wide (operation.Read k g))) 0) m))
         (sym i)
-        (λ _. absolute-leaves r m whole bank small k g emulated (in-bank-0 i) (in-room i) (wide (operation.Read k g)) skew (row_is _ _ _ refl d))
-    absolute-read (operation.Read k g) h d false i = λ n. absurd (n (rw i))
-    absolute-read operation.Plain h d t i = absurd (false_true h)
-    absolute-read (operation.Give s) h d t i = absurd (false_true h)
-    absolute-read (operation.Take g) h d t i = absurd (false_true h)
-    absolute-read (operation.Do k) h d t i = absurd (false_true h)
-    absolute-read (operation.If c) h d t i = absurd (false_true h)
-    absolute-read (operation.Flag f) h d t i = absurd (false_true h)
+        (λ _. absolute_leaves r m whole bank small k g emulated (in_bank_0 i) (in_room i) (wide (operation.Read k g)) skew (row_is _ _ _ refl d))
+    absolute_read (operation.Read k g) h d false i = λ n. absurd (n (rw i))
+    absolute_read operation.Plain h d t i = absurd (false_true h)
+    absolute_read (operation.Give s) h d t i = absurd (false_true h)
+    absolute_read (operation.Take g) h d t i = absurd (false_true h)
+    absolute_read (operation.Do k) h d t i = absurd (false_true h)
+    absolute_read (operation.If c) h d t i = absurd (false_true h)
+    absolute_read (operation.Flag f) h d t i = absurd (false_true h)
 
-    immediate-read : (o : Operation) → is_read o ≡ true → decode_of op ≡ Listed Immediate o → Stride op (Listed Immediate o)
-    immediate-read (operation.Read k g) h d = λ _. immediate-leaves r m whole bank small k g emulated (wide (operation.Read k g)) skew (row_is _ _ _ refl d)
-    immediate-read operation.Plain h d = absurd (false_true h)
-    immediate-read (operation.Give s) h d = absurd (false_true h)
-    immediate-read (operation.Take g) h d = absurd (false_true h)
-    immediate-read (operation.Do k) h d = absurd (false_true h)
-    immediate-read (operation.If c) h d = absurd (false_true h)
-    immediate-read (operation.Flag f) h d = absurd (false_true h)
+    immediate_read : (o : Operation) → is_read o ≡ true → decode_of op ≡ Listed Immediate o → Stride op (Listed Immediate o)
+    immediate_read (operation.Read k g) h d = λ _. immediate_leaves r m whole bank small k g emulated (wide (operation.Read k g)) skew (row_is _ _ _ refl d)
+    immediate_read operation.Plain h d = absurd (false_true h)
+    immediate_read (operation.Give s) h d = absurd (false_true h)
+    immediate_read (operation.Take g) h d = absurd (false_true h)
+    immediate_read (operation.Do k) h d = absurd (false_true h)
+    immediate_read (operation.If c) h d = absurd (false_true h)
+    immediate_read (operation.Flag f) h d = absurd (false_true h)
 
     -- the opcode's byte comes first, whatever D
-    direct-first : (k : Alu) (g : Reg) (d : Bool) → directBus r m whole bank small k g emulated d 0 ≡ op
-    direct-first k g true = refl
-    direct-first k g false = refl
+    direct_first : (k : Alu) (g : Reg) (d : Bool) → direct_bus r m whole bank small k g emulated d 0 ≡ op
+    direct_first k g true = refl
+    direct_first k g false = refl
 
-    direct-read : (o : Operation) → is_read o ≡ true → decode_of op ≡ Listed Direct o → Stride op (Listed Direct o)
-    direct-read (operation.Read k g) h d = λ _. direct-leaves r m whole bank small k g emulated (wide (operation.Read k g)) skew (row_is _ _ _ (direct-first k g skew) d)
-    direct-read operation.Plain h d = absurd (false_true h)
-    direct-read (operation.Give s) h d = absurd (false_true h)
-    direct-read (operation.Take g) h d = absurd (false_true h)
-    direct-read (operation.Do k) h d = absurd (false_true h)
-    direct-read (operation.If c) h d = absurd (false_true h)
-    direct-read (operation.Flag f) h d = absurd (false_true h)
+    direct_read : (o : Operation) → is_read o ≡ true → decode_of op ≡ Listed Direct o → Stride op (Listed Direct o)
+    direct_read (operation.Read k g) h d = λ _. direct_leaves r m whole bank small k g emulated (wide (operation.Read k g)) skew (row_is _ _ _ (direct_first k g skew) d)
+    direct_read operation.Plain h d = absurd (false_true h)
+    direct_read (operation.Give s) h d = absurd (false_true h)
+    direct_read (operation.Take g) h d = absurd (false_true h)
+    direct_read (operation.Do k) h d = absurd (false_true h)
+    direct_read (operation.If c) h d = absurd (false_true h)
+    direct_read (operation.Flag f) h d = absurd (false_true h)
 
     -- stores
-    store-first : (src : Source) (d : Bool) → storeBus r m whole bank small src emulated d 0 ≡ op
-    store-first src true = refl
-    store-first src false = refl
+    store_first : (src : Source) (d : Bool) → store_bus r m whole bank small src emulated d 0 ≡ op
+    store_first src true = refl
+    store_first src false = refl
 
     -- the memory after, where there are cycles
-    direct-count : (w d : Bool) (a b : List ℕ) → pick (eqb (3 + bit w + bit d) 0) a b ≡ b
-    direct-count true true a b = refl
-    direct-count true false a b = refl
-    direct-count false true a b = refl
-    direct-count false false a b = refl
+    direct_count : (w d : Bool) (a b : List ℕ) → pick (eqb (3 + bit w + bit d) 0) a b ≡ b
+    direct_count true true a b = refl
+    direct_count true false a b = refl
+    direct_count false true a b = refl
+    direct_count false false a b = refl
 
-    absolute-count : (w : Bool) (a b : List ℕ) → pick (eqb (4 + bit w) 0) a b ≡ b
-    absolute-count true a b = refl
-    absolute-count false a b = refl
+    absolute_count : (w : Bool) (a b : List ℕ) → pick (eqb (4 + bit w) 0) a b ≡ b
+    absolute_count true a b = refl
+    absolute_count false a b = refl
 
-    direct-store : (o : Operation) → is_give o ≡ true → decode_of op ≡ Listed StoreDirect o → Stride op (Listed StoreDirect o)
-    direct-store (operation.Give src) h d = λ _.
+    direct_store : (o : Operation) → is_give o ≡ true → decode_of op ≡ Listed StoreDirect o → Stride op (Listed StoreDirect o)
+    direct_store (operation.Give src) h d = λ _.
         let n : ℕ = 3 + bit (wide (operation.Give src)) + bit skew in
         subst
-        (λ (k : List ℕ). Leaves n r m (arrived op (storing r m (spot_of r m mode.Direct (wide (operation.Give src))))) k (linesBy track.StoreDirect n k))
-        (sym (direct-count (wide (operation.Give src)) skew m _))
-        (store-direct-leaves r m whole bank small src emulated (wide (operation.Give src)) skew (row_is _ _ _ (store-first src skew) d))
-    direct-store operation.Plain h d = absurd (false_true h)
-    direct-store (operation.Read k g) h d = absurd (false_true h)
-    direct-store (operation.Take g) h d = absurd (false_true h)
-    direct-store (operation.Do k) h d = absurd (false_true h)
-    direct-store (operation.If c) h d = absurd (false_true h)
-    direct-store (operation.Flag f) h d = absurd (false_true h)
+        (λ (k : List ℕ). Leaves n r m (arrived op (storing r m (spot_of r m mode.Direct (wide (operation.Give src))))) k (lines_by track.StoreDirect n k))
+        (sym (direct_count (wide (operation.Give src)) skew m _))
+        (store_direct_leaves r m whole bank small src emulated (wide (operation.Give src)) skew (row_is _ _ _ (store_first src skew) d))
+    direct_store operation.Plain h d = absurd (false_true h)
+    direct_store (operation.Read k g) h d = absurd (false_true h)
+    direct_store (operation.Take g) h d = absurd (false_true h)
+    direct_store (operation.Do k) h d = absurd (false_true h)
+    direct_store (operation.If c) h d = absurd (false_true h)
+    direct_store (operation.Flag f) h d = absurd (false_true h)
 
-    absolute-store : (o : Operation) → is_give o ≡ true → decode_of op ≡ Listed StoreAbsolute o → (i : Bool) → inside r m (operand r m) ≡ i → Stride op (Listed StoreAbsolute o)
-    absolute-store (operation.Give src) h d true i =
+    absolute_store : (o : Operation) → is_give o ≡ true → decode_of op ≡ Listed StoreAbsolute o → (i : Bool) → inside r m (operand r m) ≡ i → Stride op (Listed StoreAbsolute o)
+    absolute_store (operation.Give src) h d true i =
         let w : Bool = wide (operation.Give src) in
         subst
         (λ (t : Bool). (pick t (4 + bit w) 0 ≡ 0 → ⊥)
         → let k : List ℕ = pick (eqb (pick t (4 + bit w) 0) 0) m (placed w (operand r m) (source_of src (regs_of r) r.pbr r.dbr) m) in
-        Leaves (pick t (4 + bit w) 0) r m (arrived op (storing r m (spot_of r m mode.Absolute w))) k (linesBy track.StoreAbsolute (pick t (4 + bit w) 0) k))
+        Leaves (pick t (4 + bit w) 0) r m (arrived op (storing r m (spot_of r m mode.Absolute w))) k (lines_by track.StoreAbsolute (pick t (4 + bit w) 0) k))
         (sym i)
-        (λ _. subst (λ (k : List ℕ). Leaves (4 + bit w) r m (arrived op (storing r m (spot_of r m mode.Absolute w))) k (linesBy track.StoreAbsolute (4 + bit w) k))
-        (sym (absolute-count w m _))
-        (store-absolute-leaves r m whole bank small src emulated (in-bank-0 i) (in-room i) w skew (row_is _ _ _ refl d)))
-    absolute-store (operation.Give src) h d false i = λ n. absurd (n (rw i))
-    absolute-store operation.Plain h d t i = absurd (false_true h)
-    absolute-store (operation.Read k g) h d t i = absurd (false_true h)
-    absolute-store (operation.Take g) h d t i = absurd (false_true h)
-    absolute-store (operation.Do k) h d t i = absurd (false_true h)
-    absolute-store (operation.If c) h d t i = absurd (false_true h)
-    absolute-store (operation.Flag f) h d t i = absurd (false_true h)
+        (λ _. subst (λ (k : List ℕ). Leaves (4 + bit w) r m (arrived op (storing r m (spot_of r m mode.Absolute w))) k (lines_by track.StoreAbsolute (4 + bit w) k))
+        (sym (absolute_count w m _))
+        (store_absolute_leaves r m whole bank small src emulated (in_bank_0 i) (in_room i) w skew (row_is _ _ _ refl d)))
+    absolute_store (operation.Give src) h d false i = λ n. absurd (n (rw i))
+    absolute_store operation.Plain h d t i = absurd (false_true h)
+    absolute_store (operation.Read k g) h d t i = absurd (false_true h)
+    absolute_store (operation.Take g) h d t i = absurd (false_true h)
+    absolute_store (operation.Do k) h d t i = absurd (false_true h)
+    absolute_store (operation.If c) h d t i = absurd (false_true h)
+    absolute_store (operation.Flag f) h d t i = absurd (false_true h)
 
     by_shape : (q : Op) → decode_of op ≡ q → Stride op q
     by_shape Unlisted d = λ n. absurd (n refl)
-    by_shape (Listed Immediate o) d = immediate-read o (decoded_suits op Immediate o d) d
-    by_shape (Listed Absolute o) d = absolute-read o (decoded_suits op Absolute o d) d (inside r m (operand r m)) refl
-    by_shape (Listed Direct o) d = direct-read o (decoded_suits op Direct o d) d
-    by_shape (Listed StoreAbsolute o) d = absolute-store o (decoded_suits op StoreAbsolute o d) d (inside r m (operand r m)) refl
-    by_shape (Listed StoreDirect o) d = direct-store o (decoded_suits op StoreDirect o d) d
-    by_shape (Listed Implied o) d = λ _. do-leaves r m whole bank small o (wide o) skew emulated (row_is _ _ _ refl d)
+    by_shape (Listed Immediate o) d = immediate_read o (decoded_suits op Immediate o d) d
+    by_shape (Listed Absolute o) d = absolute_read o (decoded_suits op Absolute o d) d (inside r m (operand r m)) refl
+    by_shape (Listed Direct o) d = direct_read o (decoded_suits op Direct o d) d
+    by_shape (Listed StoreAbsolute o) d = absolute_store o (decoded_suits op StoreAbsolute o d) d (inside r m (operand r m)) refl
+    by_shape (Listed StoreDirect o) d = direct_store o (decoded_suits op StoreDirect o d) d
+    by_shape (Listed Implied o) d = λ _. do_leaves r m whole bank small o (wide o) skew emulated (row_is _ _ _ refl d)
     by_shape (Listed Xba o) d = λ n. absurd (n refl)
     by_shape (Listed Mask o) d = λ n. absurd (n refl)
     by_shape (Listed Wdm o) d = λ n. absurd (n refl)
@@ -273,7 +273,7 @@ module _ (r : Record) (m : List ℕ) (whole : length m ≡ size) (well : well_fo
     by_shape (Listed Pea o) d = λ n. absurd (n refl)
     by_shape (Listed Pei o) d = λ n. absurd (n refl)
     by_shape (Listed Per o) d = λ n. absurd (n refl)
-    by_shape (Listed Jump o) d = λ _. jump-leaves r m whole bank small o (wide o) skew emulated (row_is _ _ _ refl d)
+    by_shape (Listed Jump o) d = λ _. jump_leaves r m whole bank small o (wide o) skew emulated (row_is _ _ _ refl d)
     by_shape (Listed JumpLong o) d = λ n. absurd (n refl)
     by_shape (Listed JumpIndirect o) d = λ n. absurd (n refl)
     by_shape (Listed JumpIndirectLong o) d = λ n. absurd (n refl)
@@ -286,22 +286,22 @@ module _ (r : Record) (m : List ℕ) (whole : length m ≡ size) (well : well_fo
     by_shape (Listed Branch o) d =
         subst
         (λ (t : Bool). ((branching r m t).cycles ≡ 0 → ⊥)
-        → Leaves (branching r m t).cycles r m (arrived op (branching r m t)) m (linesBy track.Branch (branching r m t).cycles m))
+        → Leaves (branching r m t).cycles r m (arrived op (branching r m t)) m (lines_by track.Branch (branching r m t).cycles m))
         (sym (goes_holds (cond_in o) r.flags))
         (λ _. branch_leaves r m whole bank small o (wide o) skew (row_is _ _ _ refl d))
     by_shape (Listed BranchLong o) d = λ n. absurd (n refl)
     by_shape (Listed Move o) d = λ n. absurd (n refl)
 
   -- A stride from a fresh record comes to what so many cycles come to, and these are their lines.
-  pub leg-leaves : r.held ≡ false → ((legOf r m).cycles ≡ 0 → ⊥)
-      → Leaves (legOf r m).cycles r m (arrived (opcode r m) (legOf r m)) (mem_of r m) (stride_lines r m (mem_of r m) (legOf r m).cycles)
+  pub leg_leaves : r.held ≡ false → ((leg_of r m).cycles ≡ 0 → ⊥)
+      → Leaves (leg_of r m).cycles r m (arrived (opcode r m) (leg_of r m)) (mem_of r m) (stride_lines r m (mem_of r m) (leg_of r m).cycles)
   unfolding quick_of track_of
-  leg-leaves h = by_shape h (decode_of op) refl
+  leg_leaves h = by_shape h (decode_of op) refl
 
 -- ---- the code's answer
 module _ (r : Record) (m : List ℕ) where
   -- without a cycle nothing is stored
-  still : (q : Quick) → (legBy r m q).cycles ≡ 0 → memBy r m q ≡ m
+  still : (q : Quick) → (leg_by r m q).cycles ≡ 0 → mem_by r m q ≡ m
   still quick.Slow h = refl
   still (quick.Read mode k g) h = refl
   still (quick.Store mode o) h = rw h
@@ -310,10 +310,10 @@ module _ (r : Record) (m : List ℕ) where
   still quick.Jump h = refl
 
   -- no instruction here is longer than seven cycles
-  spot-short : (k : Mode) (w : Bool) → (spot_of r m k w).cycles < 8
-  spot-short mode.Immediate true = omega arith
-  spot-short mode.Immediate false = omega arith
-  spot-short mode.Direct w = two w skew'
+  spot_short : (k : Mode) (w : Bool) → (spot_of r m k w).cycles < 8
+  spot_short mode.Immediate true = omega arith
+  spot_short mode.Immediate false = omega arith
+  spot_short mode.Direct w = two w skew'
     where
       skew' : Bool
       skew' = unaligned r.d
@@ -323,84 +323,84 @@ module _ (r : Record) (m : List ℕ) where
       two true false = omega arith
       two false true = omega arith
       two false false = omega arith
-  spot-short mode.Absolute w = two (inside r m (operand r m)) w
+  spot_short mode.Absolute w = two (inside r m (operand r m)) w
     where
       two : (a b : Bool) → pick a (4 + bit b) 0 < 8
       two true true = omega arith
       two true false = omega arith
       two false b = omega arith
 
-  branch-short : (t p : Bool) → pick t (3 + bit p) 2 < 8
-  branch-short true true = omega arith
-  branch-short true false = omega arith
-  branch-short false p = omega arith
+  branch_short : (t p : Bool) → pick t (3 + bit p) 2 < 8
+  branch_short true true = omega arith
+  branch_short true false = omega arith
+  branch_short false p = omega arith
 
-  short : (q : Quick) → (legBy r m q).cycles < 8
+  short : (q : Quick) → (leg_by r m q).cycles < 8
   short quick.Slow = omega arith
-  short (quick.Read k o g) = spot-short k _
-  short (quick.Store k o) = spot-short k _
+  short (quick.Read k o g) = spot_short k _
+  short (quick.Store k o) = spot_short k _
   short (quick.Do k) = omega arith
   short (quick.If k want) =
-      branch-short (goes k want r.flags) (r.flags.emulation && not (same_page (up r.pc 2) (displaced (up r.pc 2) (low_of (there r m (up r.pc 1))))))
+      branch_short (goes k want r.flags) (r.flags.emulation && not (same_page (up r.pc 2) (displaced (up r.pc 2) (low_of (there r m (up r.pc 1))))))
   short quick.Jump = omega arith
 
 module _ (r : Record) (m : List ℕ) (whole : length m ≡ size) (well : well_formed r ≡ true) (start : fresh r ≡ true) (small : r.pc < 65536) where
-  first-half : (eqb r.pbr 0 && not r.held) ≡ true
-  first-half = and_left (eqb r.pbr 0 && not r.held) (eqb r.ir 0 && eqb r.tcu 0) start
+  first_half : (eqb r.pbr 0 && not r.held) ≡ true
+  first_half = and_left (eqb r.pbr 0 && not r.held) (eqb r.ir 0 && eqb r.tcu 0) start
 
-  bank-0 : r.pbr ≡ 0
-  bank-0 = eqb-true _ _ (and_left (eqb r.pbr 0) (not r.held) first-half)
+  bank_0 : r.pbr ≡ 0
+  bank_0 = eqb-true _ _ (and_left (eqb r.pbr 0) (not r.held) first_half)
 
-  not-held : (h : Bool) → not h ≡ true → h ≡ false
-  not-held false e = refl
-  not-held true e = absurd (false_true e)
+  not_held : (h : Bool) → not h ≡ true → h ≡ false
+  not_held false e = refl
+  not_held true e = absurd (false_true e)
 
   unheld : r.held ≡ false
-  unheld = not-held r.held (and_right (eqb r.pbr 0) (not r.held) first-half)
+  unheld = not_held r.held (and_right (eqb r.pbr 0) (not r.held) first_half)
 
   -- by whether there is a leg
   abbrev answer : Bool → Stretch
-  answer z = pick z (stretch 0 r) (stretch (legOf r m).cycles (arrived (opcode r m) (legOf r m)))
+  answer z = pick z (stretch 0 r) (stretch (leg_of r m).cycles (arrived (opcode r m) (leg_of r m)))
 
   abbrev Answered : Stretch → List ℕ → Type 0
   Answered t k = Goes r m t k × ((t.cycles < 8) × (fresh t.after ≡ true))
       × ((t.cycles ≡ 0 → ⊥) → (run_of t.cycles r m).lines ≡ stride_lines r m k t.cycles)
 
-  fresh-again : (i p s d : ℕ) (g : Regs) → fresh (ended i false 0 p s d g) ≡ true
+  fresh_again : (i p s d : ℕ) (g : Regs) → fresh (ended i false 0 p s d g) ≡ true
   unfolding ended
-  fresh-again i p s d g = refl
+  fresh_again i p s d g = refl
 
-  answered-by : (z : Bool) → eqb (legOf r m).cycles 0 ≡ z → Answered (answer z) (mem_of r m)
-  answered-by true e =
+  answered_by_lem : (z : Bool) → eqb (leg_of r m).cycles 0 ≡ z → Answered (answer z) (mem_of r m)
+  answered_by_lem true e =
       let s : mem_of r m ≡ m = still r m (quick_of (opcode r m)) (eqb-true _ _ e) in
       ((subst (Passes 0 r m r) (sym s) (passes_none r m), well), (omega arith, start), λ n. absurd (n refl))
-  answered-by false e =
-      let l : Leaves (legOf r m).cycles r m (arrived (opcode r m) (legOf r m)) (mem_of r m) (stride_lines r m (mem_of r m) (legOf r m).cycles) =
-      leg-leaves r m whole well bank-0 small unheld (eqb-false _ _ e) in (
+  answered_by_lem false e =
+      let l : Leaves (leg_of r m).cycles r m (arrived (opcode r m) (leg_of r m)) (mem_of r m) (stride_lines r m (mem_of r m) (leg_of r m).cycles) =
+      leg_leaves r m whole well bank_0 small unheld (eqb-false _ _ e) in (
         (l.passes, well_ended _ _ _ _ _ _ _),
-        (short r m (quick_of (opcode r m)), fresh-again _ _ _ _ _),
+        (short r m (quick_of (opcode r m)), fresh_again _ _ _ _ _),
         λ _. l.lines,
       )
 
-  stride-is : stride_of r m ≡ answer (eqb (legOf r m).cycles 0)
+  stride_is : stride_of r m ≡ answer (eqb (leg_of r m).cycles 0)
   unfolding stride_of
-  stride-is = rw (eq-eqb _ _ whole)
+  stride_is = rw (eq-eqb _ _ whole)
 
   mem_is : stride_mem r m ≡ mem_of r m
   unfolding stride_mem
   mem_is = rw (eq-eqb _ _ whole)
 
-  pub stride-goes : (t : Stretch) (k : List ℕ) → (t ≡ stride_of r m) × (k ≡ stride_mem r m) → Answered t k
-  stride-goes t k e =
-      subst (λ (v : Stretch). Answered v k) (sym (e.0 ∙ stride-is))
-      (subst (Answered (answer (eqb (legOf r m).cycles 0))) (sym (e.1 ∙ mem_is)) (answered-by (eqb (legOf r m).cycles 0) refl))
+  pub stride_goes : (t : Stretch) (k : List ℕ) → (t ≡ stride_of r m) × (k ≡ stride_mem r m) → Answered t k
+  stride_goes t k e =
+      subst (λ (v : Stretch). Answered v k) (sym (e.0 ∙ stride_is))
+      (subst (Answered (answer (eqb (leg_of r m).cycles 0))) (sym (e.1 ∙ mem_is)) (answered_by_lem (eqb (leg_of r m).cycles 0) refl))
 
 -- ---- a byte of a move that is under way
 module _ (r : Record) (m : List ℕ) (whole : length m ≡ size) (well : well_formed r ≡ true) (small : r.pc < 65536) (x-small : r.x < 65536)
     (y-small : r.y < 65536) where
   -- the lines of a byte, by the memory after it
-  abbrev byteLines : List ℕ → List Request
-  byteLines k = haul_lines (there r m r.pc) (there r m (up r.pc 1)) (there r m (up r.pc 2)) r.pc r.x r.y (there r m r.x) (get_or k r.y 0)
+  abbrev byte_lines : List ℕ → List Request
+  byte_lines k = haul_lines (there r m r.pc) (there r m (up r.pc 1)) (there r m (up r.pc 2)) r.pc r.x r.y (there r m r.x) (get_or k r.y 0)
 
   module _ (bank : r.pbr ≡ 0) (held : r.held ≡ true) (start : r.tcu ≡ 0) (close : near r m ≡ true) where
     banks : (there r m (up r.pc 1) ≡ 0) × (there r m (up r.pc 2) ≡ 0)
@@ -409,13 +409,13 @@ module _ (r : Record) (m : List ℕ) (whole : length m ≡ size) (well : well_fo
       eqb-true _ _ (and_right (eqb (there r m (up r.pc 1)) 0) (eqb (there r m (up r.pc 2)) 0) close),
     )
 
-    byte_of : (o : Operation) → decode_of r.ir ≡ Listed Move o → Leaves 7 r m (hauled (flag_in o) r) (carried r m) (byteLines (carried r m))
+    byte_of : (o : Operation) → decode_of r.ir ≡ Listed Move o → Leaves 7 r m (hauled (flag_in o) r) (carried r m) (byte_lines (carried r m))
     byte_of o d =
-        move-leaves r m whole bank small o x-small y-small banks (wide_of o r.flags.memsel r.flags.indexsel) (unaligned r.d) r.flags.emulation
-        (between-bytes r _ o well held start d small)
+        move_leaves r m whole bank small o x-small y-small banks (wide_of o r.flags.memsel r.flags.indexsel) (unaligned r.d) r.flags.emulation
+        (between_bytes r _ o well held start d small)
 
     -- 54 goes up, 44 down
-    by_code : (a c : Bool) → eqb r.ir 0x54 ≡ a → eqb r.ir 0x44 ≡ c → (a || c) ≡ true → Leaves 7 r m (hauled a r) (carried r m) (byteLines (carried r m))
+    by_code : (a c : Bool) → eqb r.ir 0x54 ≡ a → eqb r.ir 0x44 ≡ c → (a || c) ≡ true → Leaves 7 r m (hauled a r) (carried r m) (byte_lines (carried r m))
     unfolding decode_of opcodes one_bytes
     by_code true c i j e = byte_of (operation.Flag true) (rw (eqb-true r.ir 0x54 i))
     by_code false true i j e = byte_of (operation.Flag false) (rw (eqb-true r.ir 0x44 j))
@@ -425,29 +425,29 @@ module _ (r : Record) (m : List ℕ) (whole : length m ≡ size) (well : well_fo
   taken z = pick z (stretch 7 (hauled (eqb r.ir 0x54) r)) (stretch 0 r)
 
   abbrev Hauled : Stretch → List ℕ → Type 0
-  Hauled t k = Goes r m t k × (t.cycles < 8) × ((t.cycles ≡ 0 → ⊥) → (run_of t.cycles r m).lines ≡ byteLines k)
+  Hauled t k = Goes r m t k × (t.cycles < 8) × ((t.cycles ≡ 0 → ⊥) → (run_of t.cycles r m).lines ≡ byte_lines k)
 
-  haul-by : (z : Bool) → hauls r m ≡ z → Hauled (taken z) (pick z (carried r m) m)
-  haul-by false e = ((passes_none r m, well), omega arith, λ n. absurd (n refl))
-  haul-by true e =
+  haul_by : (z : Bool) → hauls r m ≡ z → Hauled (taken z) (pick z (carried r m) m)
+  haul_by false e = ((passes_none r m, well), omega arith, λ n. absurd (n refl))
+  haul_by true e =
       let b : between r ≡ true = and_left (between r) (near r m) e in
       let h : (eqb r.pbr 0 && r.held) ≡ true = and_left (eqb r.pbr 0 && r.held) (is_move r.ir && eqb r.tcu 0) b in
       let v : (is_move r.ir && eqb r.tcu 0) ≡ true = and_right (eqb r.pbr 0 && r.held) (is_move r.ir && eqb r.tcu 0) b in
-      let l : Leaves 7 r m (hauled (eqb r.ir 0x54) r) (carried r m) (byteLines (carried r m)) =
+      let l : Leaves 7 r m (hauled (eqb r.ir 0x54) r) (carried r m) (byte_lines (carried r m)) =
       by_code (eqb-true _ _ (and_left (eqb r.pbr 0) r.held h)) (and_right (eqb r.pbr 0) r.held h)
       (eqb-true _ _ (and_right (is_move r.ir) (eqb r.tcu 0) v)) (and_right (between r) (near r m) e)
       (eqb r.ir 0x54) (eqb r.ir 0x44) refl refl (and_left (is_move r.ir) (eqb r.tcu 0) v) in
       ((l.passes, well_ended _ _ _ _ _ _ _), omega arith, λ _. l.lines)
 
-  haul-is : haul_of r m ≡ taken (hauls r m)
+  haul_is : haul_of r m ≡ taken (hauls r m)
   unfolding haul_of
-  haul-is = rw (eq-eqb _ _ whole)
+  haul_is = rw (eq-eqb _ _ whole)
 
   after_is : haul_mem r m ≡ pick (hauls r m) (carried r m) m
   unfolding haul_mem
   after_is = rw (eq-eqb _ _ whole)
 
-  pub haul-goes : (t : Stretch) (k : List ℕ) → (t ≡ haul_of r m) × (k ≡ haul_mem r m) → Hauled t k
-  haul-goes t k e =
-      subst (λ (v : Stretch). Hauled v k) (sym (e.0 ∙ haul-is))
-      (subst (Hauled (taken (hauls r m))) (sym (e.1 ∙ after_is)) (haul-by (hauls r m) refl))
+  pub haul_goes : (t : Stretch) (k : List ℕ) → (t ≡ haul_of r m) × (k ≡ haul_mem r m) → Hauled t k
+  haul_goes t k e =
+      subst (λ (v : Stretch). Hauled v k) (sym (e.0 ∙ haul_is))
+      (subst (Hauled (taken (hauls r m))) (sym (e.1 ∙ after_is)) (haul_by (hauls r m) refl))

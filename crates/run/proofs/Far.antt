@@ -26,22 +26,22 @@ same_by false z c x y e = refl
 
 module _ (turn : Record → List ℕ → Stretch) (memory : Record → List ℕ → List ℕ) (floor : ℕ) where
   -- too little is left
-  far-end : (k l : ℕ) (r : Record) (m : List ℕ) → l ≤ floor → far turn memory floor k l r m ≡ 0
+  far_end : (k l : ℕ) (r : Record) (m : List ℕ) → l ≤ floor → far turn memory floor k l r m ≡ 0
   unfolding far
-  far-end zero l r m h = refl
-  far-end (suc k) l r m h = rw (le-ltb floor l h)
+  far_end zero l r m h = refl
+  far_end (suc k) l r m h = rw (le-ltb floor l h)
 
   -- a turn that did nothing
-  far-stop : (k l : ℕ) (r : Record) (m : List ℕ) → (turn r m).cycles ≡ 0 → far turn memory floor k l r m ≡ 0
+  far_stop : (k l : ℕ) (r : Record) (m : List ℕ) → (turn r m).cycles ≡ 0 → far turn memory floor k l r m ≡ 0
   unfolding far
-  far-stop zero l r m e = refl
-  far-stop (suc k) l r m e = none_by (ltb floor l) (eqb (turn r m).cycles 0) _ (eq-eqb _ _ e)
+  far_stop zero l r m e = refl
+  far_stop (suc k) l r m e = none_by (ltb floor l) (eqb (turn r m).cycles 0) _ (eq-eqb _ _ e)
 
   -- as many turns as cycles are left are enough
   enough : (k j l : ℕ) (r : Record) (m : List ℕ) → l ≤ k → l ≤ j → far turn memory floor k l r m ≡ far turn memory floor j l r m
   unfolding far
-  enough zero j l r m h i = sym (far-end j l r m (omega (arith, h)))
-  enough (suc k) zero l r m h i = far-end (suc k) l r m (omega (arith, i))
+  enough zero j l r m h i = sym (far_end j l r m (omega (arith, h)))
+  enough (suc k) zero l r m h i = far_end (suc k) l r m (omega (arith, i))
   enough (suc k) (suc j) l r m h i =
       let c : ℕ = (turn r m).cycles in
       same_by (ltb floor l) (eqb c 0) c _ _ (λ e. enough k j (l - c) (turn r m).after (memory r m) (omega (arith, h, eqb-false c 0 e)) (omega (arith, i, eqb-false c 0 e)))
@@ -50,18 +50,18 @@ module _ (turn : Record → List ℕ → Stretch) (memory : Record → List ℕ 
   reach b r m = far turn memory floor b b r m
 
   -- a turn that did something
-  far-on : (l : ℕ) (r : Record) (m : List ℕ) → floor < l → ((turn r m).cycles ≡ 0 → ⊥)
+  far_on : (l : ℕ) (r : Record) (m : List ℕ) → floor < l → ((turn r m).cycles ≡ 0 → ⊥)
       → reach l r m ≡ (turn r m).cycles + reach (l - (turn r m).cycles) (turn r m).after (memory r m)
   unfolding far
-  far-on zero r m h n = absurd (omega (arith, h))
-  far-on (suc k) r m h n =
+  far_on zero r m h n = absurd (omega (arith, h))
+  far_on (suc k) r m h n =
       let c : ℕ = (turn r m).cycles in
       rw (lt-ltb floor (suc k) h, ne_eqb c 0 n)
       (ap (λ (i : ℕ). c + i) (enough k (suc k - c) (suc k - c) (turn r m).after (memory r m) (omega (arith, n)) (omega arith)))
 
   -- ---- a loop that counts down: what it did, and what it is still to do, is the whole
-  pub far-start : (b : ℕ) (r : Record) (m : List ℕ) → (b - b) + reach b r m ≡ reach b r m
-  far-start b r m = omega arith
+  pub far_start : (b : ℕ) (r : Record) (m : List ℕ) → (b - b) + reach b r m ≡ reach b r m
+  far_start b r m = omega arith
 
   module _ (b l : ℕ) (r at : Record) (m k : List ℕ) (fits : l ≤ b) (so_far : (b - l) + reach l at k ≡ reach b r m) where
     abbrev On : Stretch → List ℕ → Type 0
@@ -71,24 +71,24 @@ module _ (turn : Record → List ℕ → Stretch) (memory : Record → List ℕ 
     on h i n =
         let c : ℕ = (turn at k).cycles in
         let e : (b - (l - c)) + reach (l - c) (turn at k).after (memory at k) ≡ (b - l) + (c + reach (l - c) (turn at k).after (memory at k)) = omega (arith, fits, i) in
-        e ∙ ap (λ (j : ℕ). (b - l) + j) (sym (far-on l at k h n)) ∙ so_far
+        e ∙ ap (λ (j : ℕ). (b - l) + j) (sym (far_on l at k h n)) ∙ so_far
 
-    pub far-more : floor < l → (t : Stretch) (k' : List ℕ) → (t ≡ turn at k) × (k' ≡ memory at k) → On t k'
-    far-more h t k' e = subst (λ (v : Stretch). On v k') (sym e.0) (subst (On (turn at k)) (sym e.1) (on h))
+    pub far_more : floor < l → (t : Stretch) (k' : List ℕ) → (t ≡ turn at k) × (k' ≡ memory at k) → On t k'
+    far_more h t k' e = subst (λ (v : Stretch). On v k') (sym e.0) (subst (On (turn at k)) (sym e.1) (on h))
 
-    pub far-stopped : (t : Stretch) (n : ℕ) → t ≡ turn at k → t.cycles ≡ 0 → n ≡ b - l → n ≡ reach b r m
-    far-stopped t n e z h =
-        let s : reach l at k ≡ 0 = far-stop l l at k (ap (λ (v : Stretch). v.cycles) (sym e) ∙ z) in
+    pub far_stopped : (t : Stretch) (n : ℕ) → t ≡ turn at k → t.cycles ≡ 0 → n ≡ b - l → n ≡ reach b r m
+    far_stopped t n e z h =
+        let s : reach l at k ≡ 0 = far_stop l l at k (ap (λ (v : Stretch). v.cycles) (sym e) ∙ z) in
         omega (arith, so_far, s, h)
 
-    pub far-ended : (n : ℕ) → l ≤ floor → n ≡ b - l → n ≡ reach b r m
-    far-ended n i h =
-        let s : reach l at k ≡ 0 = far-end l l at k i in
+    pub far_ended : (n : ℕ) → l ≤ floor → n ≡ b - l → n ≡ reach b r m
+    far_ended n i h =
+        let s : reach l at k ≡ 0 = far_end l l at k i in
         omega (arith, so_far, s, h)
 
   -- from a record that is the same
-  pub far-same : (b n : ℕ) (r s : Record) (m : List ℕ) → s ≡ r → n ≡ reach b s m → n ≡ reach b r m
-  far-same b n r s m e h = h ∙ ap (λ (v : Record). reach b v m) e
+  pub far_same : (b n : ℕ) (r s : Record) (m : List ℕ) → s ≡ r → n ≡ reach b s m → n ≡ reach b r m
+  far_same b n r s m e h = h ∙ ap (λ (v : Record). reach b v m) e
 
 -- ---- by where the record stands
 pub far_fresh : (b : ℕ) (r : Record) (m : List ℕ) → fresh r ≡ true → ahead_far b r m ≡ strides_far b r m
@@ -108,17 +108,17 @@ not_hauled true s z = z
 not_hauled false s z = z
 
 module _ (r : Record) (inside : r.tcu ≡ 0 → ⊥) where
-  not-fresh : fresh r ≡ false
-  not-fresh = ap (λ (t : Bool). (eqb r.pbr 0 && not r.held) && (eqb r.ir 0 && t)) (ne_eqb r.tcu 0 inside) ∙ and_false (eqb r.pbr 0 && not r.held) (eqb r.ir 0)
+  not_fresh : fresh r ≡ false
+  not_fresh = ap (λ (t : Bool). (eqb r.pbr 0 && not r.held) && (eqb r.ir 0 && t)) (ne_eqb r.tcu 0 inside) ∙ and_false (eqb r.pbr 0 && not r.held) (eqb r.ir 0)
 
-  not-between : between r ≡ false
-  not-between = ap (λ (t : Bool). (eqb r.pbr 0 && r.held) && (is_move r.ir && t)) (ne_eqb r.tcu 0 inside) ∙ and_false (eqb r.pbr 0 && r.held) (is_move r.ir)
+  not_between : between r ≡ false
+  not_between = ap (λ (t : Bool). (eqb r.pbr 0 && r.held) && (is_move r.ir && t)) (ne_eqb r.tcu 0 inside) ∙ and_false (eqb r.pbr 0 && r.held) (is_move r.ir)
 
-  no-haul : (m : List ℕ) → (haul_of r m).cycles ≡ 0
+  no_haul : (m : List ℕ) → (haul_of r m).cycles ≡ 0
   unfolding haul_of
-  no-haul m =
-      ap (λ (t : Bool). (pick (whole m) (pick (t && near r m) (stretch 7 (hauled (eqb r.ir 0x54) r)) (stretch 0 r)) (stretch 0 r)).cycles) not-between
+  no_haul m =
+      ap (λ (t : Bool). (pick (whole m) (pick (t && near r m) (stretch 7 (hauled (eqb r.ir 0x54) r)) (stretch 0 r)) (stretch 0 r)).cycles) not_between
       ∙ not_hauled (whole m) (stretch 0 r) refl
 
-  pub far-inside : (b : ℕ) (m : List ℕ) → ahead_far b r m ≡ 0
-  far-inside b m = far_not_fresh b r m not-fresh ∙ far-stop haul_of haul_mem 8 b b r m (no-haul m)
+  pub far_inside : (b : ℕ) (m : List ℕ) → ahead_far b r m ≡ 0
+  far_inside b m = far_not_fresh b r m not_fresh ∙ far_stop haul_of haul_mem 8 b b r m (no_haul m)

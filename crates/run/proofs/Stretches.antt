@@ -74,12 +74,12 @@ module _ (r : Record) (well : well_formed r ≡ true) (start : fresh r ≡ true)
   two : (eqb r.ir 0 && eqb r.tcu 0) ≡ true
   two = and_right (eqb r.pbr 0 && not r.held) (eqb r.ir 0 && eqb r.tcu 0) start
 
-  not-held : (h : Bool) → not h ≡ true → h ≡ false
-  not-held false e = refl
-  not-held true e = absurd (false_true e)
+  not_held : (h : Bool) → not h ≡ true → h ≡ false
+  not_held false e = refl
+  not_held true e = absurd (false_true e)
 
   unheld : r.held ≡ false
-  unheld = not-held r.held (and_right (eqb r.pbr 0) (not r.held) one)
+  unheld = not_held r.held (and_right (eqb r.pbr 0) (not r.held) one)
 
   scratch : (eqb r.tempaddr 0 && (eqb r.tempdata 0 && eqb r.tempbank 0)) ≡ true
   unfolding well_formed
@@ -88,8 +88,8 @@ module _ (r : Record) (well : well_formed r ≡ true) (start : fresh r ≡ true)
       (rw unheld at (and_right (narrowed r.flags r.x r.y)
       (implied (boundary r.held r.ir r.tcu) (clean r.flags.emulation r.s r.tempaddr r.tempdata r.tempbank)) well))
 
-  pub cleared-is : made 0 false 0 0 0 0 0 ≡ r
-  cleared-is =
+  pub cleared_is : made 0 false 0 0 0 0 0 ≡ r
+  cleared_is =
       let p : r.pbr ≡ 0 = eqb-true _ _ (and_left (eqb r.pbr 0) (not r.held) one) in
       let i : r.ir ≡ 0 = eqb-true _ _ (and_left (eqb r.ir 0) (eqb r.tcu 0) two) in
       let t : r.tcu ≡ 0 = eqb-true _ _ (and_right (eqb r.ir 0) (eqb r.tcu 0) two) in

@@ -68,18 +68,18 @@ stored_size false m i v = refl
 
 module _ (m : List ℕ) (whole : length m ≡ size) (r s : Record) (q : Request) (asks : request_of r ≡ Ask q) (goes : answer_of r (bus_byte q m) ≡ Next s)
     (inside : q.addr < size) where
-  cycle-done : cycle_of r m ≡ Done (crossed q (bus_byte q m)) s
+  cycle_done : cycle_of r m ≡ Done (crossed q (bus_byte q m)) s
   unfolding cycle_of request_of answer_of
-  cycle-done =
+  cycle_done =
       ap (λ (a : Asked). over a (micro_of r) r m) asks
       ∙ ap (λ (t : Bool). pick t (Stop Bank) (answered (crossed q (bus_byte q m)) (answered_by (micro_of r) r (bus_byte q m))))
       (lt-leb (length m) q.addr (rw whole inside))
       ∙ ap (answered (crossed q (bus_byte q m))) goes
 
-  leaves-cycle : (n : ℕ) (u : Record) (k : List ℕ) (ls : List Request) → Leaves n s (stores m q) u k ls
+  leaves_cycle : (n : ℕ) (u : Record) (k : List ℕ) (ls : List Request) → Leaves n s (stores m q) u k ls
       → Leaves (suc n) r m u k (crossed q (bus_byte q m) ∷ ls)
-  leaves-cycle n u k ls x =
-      let e : run_of (suc n) r m ≡ more (crossed q (bus_byte q m)) (run_of n s (stores m q)) = run_done n r s m _ cycle-done in
+  leaves_cycle n u k ls x =
+      let e : run_of (suc n) r m ≡ more (crossed q (bus_byte q m)) (run_of n s (stores m q)) = run_done n r s m _ cycle_done in
       record {
         passes = record {
           number = ap (λ (v : End). v.number) e ∙ x.passes.number;
@@ -114,14 +114,14 @@ Law n b = (m : List ℕ) → length m ≡ size → (r u : Record) → (run n b r
 
 module _ (n : ℕ) (b : ℕ → ℕ) (go : Law n (later b)) (m : List ℕ) (whole : length m ≡ size) (r u : Record) where
   -- by whether the instruction ends with this cycle
-  leaves-pick : (s : Record) (q : Request) (e : Bool) → request_of r ≡ Ask q → answer_of r (b 0) ≡ Next s
+  leaves_pick : (s : Record) (q : Request) (e : Bool) → request_of r ≡ Ask q → answer_of r (b 0) ≡ Next s
       → let v : Ran = pick e (only q (Next s)) (also q (run n (later b) s)) in
       v.out ≡ Next u → Answers m b v.requests → Leaves (length v.requests) r m u (stores_all m v.requests) (lines_all m v.requests)
-  leaves-pick s q true asks goes out x =
-      leaves-cycle m whole r s q asks (ap (answer_of r) (sym x.1) ∙ goes) x.0 0 u (stores m q) []
+  leaves_pick s q true asks goes out x =
+      leaves_cycle m whole r s q asks (ap (answer_of r) (sym x.1) ∙ goes) x.0 0 u (stores m q) []
       (subst (λ (v : Record). Leaves 0 s (stores m q) v (stores m q) []) (same_record s u out) (leaves_none s (stores m q)))
-  leaves-pick s q false asks goes out x =
-      leaves-cycle m whole r s q asks (ap (answer_of r) (sym x.1) ∙ goes) x.0 _ u _ _
+  leaves_pick s q false asks goes out x =
+      leaves_cycle m whole r s q asks (ap (answer_of r) (sym x.1) ∙ goes) x.0 _ u _ _
       (go (stores m q) (stored_size q.write m q.addr (bus_byte q m) ∙ whole) s u out x.2)
 
   -- by what is asked and answered
@@ -131,7 +131,7 @@ module _ (n : ℕ) (b : ℕ → ℕ) (go : Law n (later b)) (m : List ℕ) (whol
   unfolding accepts
   leaves_after (No k) a asks goes out x = absurd (not_refused u (Refused k) refl out)
   leaves_after (Ask q) (Refused k) asks goes out x = absurd (not_refused u (Refused k) refl out)
-  leaves_after (Ask q) (Next s) asks goes out x = leaves-pick s q (at_boundary s) asks goes out x
+  leaves_after (Ask q) (Next s) asks goes out x = leaves_pick s q (at_boundary s) asks goes out x
 
 -- What cycle after cycle answers is what the run over the memory does.
 pub leaves_run : (n : ℕ) (b : ℕ → ℕ) → Law n b

@@ -12,10 +12,10 @@ use Rattle.numbers.specs.Numbers.{run_number}
 use Rattle.run_port.specs.Port.{run_bytes, unfit, ran_to}
 
 module _ (b m : List ℕ) (n : ℕ) (u : Unpacked) (e : u ≡ unpacked b) where
-  pub run-bad : u ≡ Bad → run_bytes b m n ≡ record { answer = run_number (unfit (length m) n) 0; bytes = b; mem = m }
+  pub run_bad : u ≡ Bad → run_bytes b m n ≡ record { answer = run_number (unfit (length m) n) 0; bytes = b; mem = m }
   unfolding run_bytes
-  run-bad h = rw (← e, h)
+  run_bad h = rw (← e, h)
 
-  pub run-good : (r : Record) → u ≡ Good r → run_bytes b m n ≡ ran_to (whole_run n r m)
+  pub run_good : (r : Record) → u ≡ Good r → run_bytes b m n ≡ ran_to (whole_run n r m)
   unfolding run_bytes
-  run-good r h = rw (← e, h)
+  run_good r h = rw (← e, h)

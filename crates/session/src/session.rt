@@ -1,7 +1,7 @@
 // The work is done by value. The two entries that change a lent session only take it apart and put it back.
 ghost use Rattle.std.specs.Prelude.{◌≡◌};
 ghost use Rattle.step.specs.Cycle.{request_of};
-ghost use Rattle.step.specs.Answers.{answerNumber};
+ghost use Rattle.step.specs.Answers.{answer_number};
 ghost use Rattle.session.specs.Sessions.{counted, counted_on, started, stepped, answered_to, cycled_by, memory_by, cycled_over, memory_over};
 
 use crate::types::{Session, Stepped};
@@ -46,7 +46,7 @@ pub fn count_on(n: u64, more: u32) -> u64
 }
 
 fn number_of(a: Answer) -> u8
-    ensures { result ≡ answerNumber a }
+    ensures { result ≡ answer_number a }
 {
     match a {
         Answer::Next(_) => 0,

@@ -17,7 +17,7 @@ use Rattle.packed.proofs.RoundTrip.{found_again, pack_length, from_drop}
 use Rattle.session_port.specs.declared.types.Opened.TheVariants.{Good, Bad}
 use Rattle.session_port.specs.Port.{count_at, count_bytes, pack_session, opened_by, opened, session_answer, session_cycle}
 use Rattle.numbers.proofs.Bytes.{Bytes, same_bytes}
-use Rattle.session_port.proofs.Laws.{opened_size, answer-good, cycle-good}
+use Rattle.session_port.proofs.Laws.{opened_size, answer_good, cycle_good}
 
 -- ---- the count: each byte and what lies above it
 
@@ -136,9 +136,9 @@ module _ (c₀ c₁ c₂ c₃ c₄ c₅ c₆ c₇ : ℕ) (h₀ : c₀ < 256) (h�
   up₇ : n₀ / 72057594037927936 ≡ n₇
   up₇ = twice_7 n₀ ∙ ap (λ (n : ℕ). n / 256) up₆ ∙ next c₆ n₇ h₆
 
-  count-again : count_bytes n₀ ≡ c₀ ∷ c₁ ∷ c₂ ∷ c₃ ∷ c₄ ∷ c₅ ∷ c₆ ∷ c₇ ∷ []
+  count_again : count_bytes n₀ ≡ c₀ ∷ c₁ ∷ c₂ ∷ c₃ ∷ c₄ ∷ c₅ ∷ c₆ ∷ c₇ ∷ []
   unfolding count_bytes
-  count-again = λ i.
+  count_again = λ i.
       lowest c₀ n₁ h₀ i
       ∷ (ap (λ (n : ℕ). n % 256) up₁ ∙ lowest c₁ n₂ h₁) i
       ∷ (ap (λ (n : ℕ). n % 256) up₂ ∙ lowest c₂ n₃ h₂) i
@@ -152,7 +152,7 @@ module _ (c₀ c₁ c₂ c₃ c₄ c₅ c₆ c₇ : ℕ) (h₀ : c₀ < 256) (h�
 count_bytes_again : (b : List ℕ) → Bytes b → length b ≡ 40 → count_bytes (count_at b) ≡ drop 32 b
 unfolding count_at
 count_bytes_again b h l =
-    count-again (byte_at b 32) (byte_at b 33) (byte_at b 34) (byte_at b 35) (byte_at b 36) (byte_at b 37) (byte_at b 38) (byte_at b 39)
+    count_again (byte_at b 32) (byte_at b 33) (byte_at b 34) (byte_at b 35) (byte_at b 36) (byte_at b 37) (byte_at b 38) (byte_at b 39)
     (h 32) (h 33) (h 34) (h 35) (h 36) (h 37) (h 38) (h 39)
     ∙ from_drop 8 32 b l
 
@@ -178,12 +178,12 @@ same_session b s h e =
 -- ---- a refused cycle leaves every byte
 
 module _ (b : List ℕ) (s : Session) (h : Bytes b) (e : opened b ≡ Good s) where
-  pub answer-still : (byte : ℕ) → ((answered_to s byte).number ≡ 0 → ⊥)
+  pub answer_still : (byte : ℕ) → ((answered_to s byte).number ≡ 0 → ⊥)
       → session_answer b byte ≡ record { number = (answered_to s byte).number; bytes = b }
-  answer-still byte k = answer-good b byte (opened b) refl s e ∙ rw (refused_byte s byte k, same_session b s h e)
+  answer_still byte k = answer_good b byte (opened b) refl s e ∙ rw (refused_byte s byte k, same_session b s h e)
 
-  pub cycle-still : (m : List ℕ) → ((cycled_over s m).number ≡ 0 → ⊥)
+  pub cycle_still : (m : List ℕ) → ((cycled_over s m).number ≡ 0 → ⊥)
       → session_cycle b m ≡ record { number = (cycled_over s m).number; bytes = b; mem = m }
-  cycle-still m k =
+  cycle_still m k =
       let f = refused_cycle s m k in
-      cycle-good b m (opened b) refl s e ∙ rw (f.0, f.1, same_session b s h e)
+      cycle_good b m (opened b) refl s e ∙ rw (f.0, f.1, same_session b s h e)

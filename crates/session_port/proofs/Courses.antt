@@ -34,13 +34,13 @@ course_stop n s m h = rw (ne_eqb _ _ h, course_of)
 -- ---- by what the bytes are found to be
 
 module _ (b m : List ℕ) (n : ℕ) (o : Opened) (e : o ≡ opened b) where
-  pub cycles-bad : o ≡ Bad → session_cycles b m n ≡ record { number = no_session m; done = 0; bytes = b; mem = m }
+  pub cycles_bad : o ≡ Bad → session_cycles b m n ≡ record { number = no_session m; done = 0; bytes = b; mem = m }
   unfolding session_cycles
-  cycles-bad h = rw (← e, h)
+  cycles_bad h = rw (← e, h)
 
-  pub cycles-good : (s : Session) → o ≡ Good s → session_cycles b m n ≡ several_to (course_over n s m)
+  pub cycles_good : (s : Session) → o ≡ Good s → session_cycles b m n ≡ several_to (course_over n s m)
   unfolding session_cycles
-  cycles-good s h = rw (← e, h)
+  cycles_good s h = rw (← e, h)
 
 -- ---- the memory's size
 

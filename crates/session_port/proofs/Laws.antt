@@ -44,21 +44,21 @@ put_both b b₁ b₂ x y s h e f g k =
 -- ---- a cycle
 
 module _ (b : List ℕ) (byte : ℕ) (o : Opened) (e : o ≡ opened b) where
-  pub answer-bad : o ≡ Bad → session_answer b byte ≡ record { number = 4; bytes = b }
+  pub answer_bad : o ≡ Bad → session_answer b byte ≡ record { number = 4; bytes = b }
   unfolding session_answer
-  answer-bad h = rw (← e, h)
+  answer_bad h = rw (← e, h)
 
-  pub answer-good : (s : Session) → o ≡ Good s
+  pub answer_good : (s : Session) → o ≡ Good s
       → session_answer b byte ≡ record { number = (answered_to s byte).number; bytes = pack_session (answered_to s byte).session }
   unfolding session_answer
-  answer-good s h = rw (← e, h)
+  answer_good s h = rw (← e, h)
 
 module _ (b m : List ℕ) (o : Opened) (e : o ≡ opened b) where
-  pub cycle-bad : o ≡ Bad → session_cycle b m ≡ record { number = pick (eqb (length m) size) 4 1; bytes = b; mem = m }
+  pub cycle_bad : o ≡ Bad → session_cycle b m ≡ record { number = pick (eqb (length m) size) 4 1; bytes = b; mem = m }
   unfolding session_cycle
-  cycle-bad h = rw (← e, h)
+  cycle_bad h = rw (← e, h)
 
-  pub cycle-good : (s : Session) → o ≡ Good s
+  pub cycle_good : (s : Session) → o ≡ Good s
       → session_cycle b m ≡ record { number = (cycled_over s m).number; bytes = pack_session (cycled_over s m).session; mem = memory_over s m }
   unfolding session_cycle
-  cycle-good s h = rw (← e, h)
+  cycle_good s h = rw (← e, h)

@@ -57,18 +57,18 @@ module _ (m : Bool) where
   either_way true pbr = refl
   either_way false pbr = refl
 
-  byte-back : (last : Bool) (pbr : ℕ) → m ≡ true → implied (back (moved_on last pbr)) m ≡ true
-  byte-back true pbr h = refl
-  byte-back false pbr h = h
+  byte_back : (last : Bool) (pbr : ℕ) → m ≡ true → implied (back (moved_on last pbr)) m ≡ true
+  byte_back true pbr h = refl
+  byte_back false pbr h = h
 
-  leads-back : (t : To) (o : Operation) (r : Record) (b : ℕ) → implied (again t) m ≡ true → implied (back (way_of t o r b)) m ≡ true
-  leads-back to.On o r b h = refl
-  leads-back to.End o r b h = refl
-  leads-back to.EndByte o r b h = refl
-  leads-back to.EndBank o r b h = refl
-  leads-back to.Taken o r b h = either_way (holds (cond_in o) r.flags) r.pbr
-  leads-back to.Crossed o r b h = either_way (not (same_page r.pc (target r))) r.pbr
-  leads-back to.Moved o r b h = byte-back (last_byte r) r.pbr h
+  leads_back : (t : To) (o : Operation) (r : Record) (b : ℕ) → implied (again t) m ≡ true → implied (back (way_of t o r b)) m ≡ true
+  leads_back to.On o r b h = refl
+  leads_back to.End o r b h = refl
+  leads_back to.EndByte o r b h = refl
+  leads_back to.EndBank o r b h = refl
+  leads_back to.Taken o r b h = either_way (holds (cond_in o) r.flags) r.pbr
+  leads_back to.Crossed o r b h = either_way (not (same_page r.pc (target r))) r.pbr
+  leads_back to.Moved o r b h = byte_back (last_byte r) r.pbr h
 
 same_arrived : (w : Way) (ir tcu : ℕ) (g : Regs) (t : Mid) → implied (back w) (is_move ir) ≡ true → Same (Next (arrived w ir tcu g t))
 same_arrived (On pbr) ir tcu g t h = same_under_way ir (tcu % 8) pbr g t
@@ -84,7 +84,7 @@ same_answered (Refuse n) r b e = tt
 same_answered Fetch r b e = same_begun (decode_of b) r b
 same_answered (Held q m c t o) r b e =
     let h : implied (again t) (is_move r.ir) ≡ true = rw (is_move_lem r.ir) (and_right (fine t c && silent q m c t) _ e) in
-    same_arrived (way_of t o r b) r.ir r.tcu (regs_after c o r b) (mid_after m o r b) (leads-back (is_move r.ir) t o r b h)
+    same_arrived (way_of t o r b) r.ir r.tcu (regs_after c o r b) (mid_after m o r b) (leads_back (is_move r.ir) t o r b h)
 
 -- For any record that an answered cycle leads to, a run's boundary is the record's.
 pub same_boundary : (r s : Record) (b : ℕ) → answer_of r b ≡ Next s → at_boundary s ≡ boundary s.held s.ir s.tcu

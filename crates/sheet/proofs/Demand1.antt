@@ -32,7 +32,7 @@ use Rattle.cycles.specs.declared.types.Micro.TheVariants.{Refuse, Fetch, Held}
 use Rattle.bus.specs.Bus.{ask_of}
 use Rattle.mid.specs.Mid.{mid_after}
 use Rattle.act.specs.Act.{regs_after, way_of, act_of}
-use Rattle.step.specs.Answers.{answerNumber, askedNumber, askedValues}
+use Rattle.step.specs.Answers.{answer_number, asked_number, asked_values}
 use Rattle.step.specs.Cycle.{micro_of, asked_by, answered_by, request_of, answer_of}
 use Rattle.sheet.proofs.Walk.{and_left, and_right, false_true}
 use Rattle.sheet.proofs.Rows.{writing, deaf_move, deaf_change, deaf_to, fine, silent, in_order, micro_in_order}
@@ -64,18 +64,18 @@ pub demand_1_request : (r : Record) → Question (request_of r)
 demand_1_request r = question r (request_of r) refl
 
 -- In document 01's numbers: 0 for accepted, or 4 to 6.
-numbers : (a : Answer) → Outcome a → (answerNumber a ≡ 0) ⊎ ((4 ≤ answerNumber a) × (answerNumber a ≤ 6))
-numbers a (accepted s e) = inl (ap answerNumber e)
+numbers : (a : Answer) → Outcome a → (answer_number a ≡ 0) ⊎ ((4 ≤ answer_number a) × (answer_number a ≤ 6))
+numbers a (accepted s e) = inl (ap answer_number e)
 numbers a (refused n e p q) =
-    inr (subst (λ (x : Answer). (4 ≤ answerNumber x) × (answerNumber x ≤ 6)) (sym e) (p, q))
+    inr (subst (λ (x : Answer). (4 ≤ answer_number x) × (answer_number x ≤ 6)) (sym e) (p, q))
 
-pub demand_1_numbers : (r : Record) (b : ℕ) → let n : ℕ = answerNumber (answer_of r b) in (n ≡ 0) ⊎ ((4 ≤ n) × (n ≤ 6))
+pub demand_1_numbers : (r : Record) (b : ℕ) → let n : ℕ = answer_number (answer_of r b) in (n ≡ 0) ⊎ ((4 ≤ n) × (n ≤ 6))
 demand_1_numbers r b = numbers (answer_of r b) (demand_1 r b)
 
 -- A request that is made has its four values and the number 0; one that is refused has no values, and 4 to 6.
 abbrev Told : Asked → Type 0
 Told a =
-    ((askedNumber a ≡ 0) × (length (askedValues a) ≡ 4)) ⊎ ((4 ≤ askedNumber a) × (askedNumber a ≤ 6) × (askedValues a ≡ []))
+    ((asked_number a ≡ 0) × (length (asked_values a) ≡ 4)) ⊎ ((4 ≤ asked_number a) × (asked_number a ≤ 6) × (asked_values a ≡ []))
 
 told : (a : Asked) → Question a → Told a
 told a (asked q e) = subst Told (sym e) (inl (refl, refl))
@@ -87,14 +87,14 @@ demand_1_request_numbers r = told (request_of r) (demand_1_request r)
 -- ---- what the request refuses, the answer refuses, whatever the byte
 refused_by : (m : Micro) (r : Record) (b : ℕ) (n : Refusal) → asked_by m r ≡ No n → answered_by m r b ≡ Refused n
 refused_by (Refuse k) r b n e = let same : k ≡ n = cc in ap Refused same
-refused_by Fetch r b n e = absurd (ask-no e)
+refused_by Fetch r b n e = absurd (ask_no e)
   where
-    ask-no : {q : Request} → Ask q ≡ No n → ⊥
-    ask-no h = let z : ◌≡◌ {A = Bool} false true = cc in false_true z
-refused_by (Held q m c t o) r b n e = absurd (ask-no e)
+    ask_no : {q : Request} → Ask q ≡ No n → ⊥
+    ask_no h = let z : ◌≡◌ {A = Bool} false true = cc in false_true z
+refused_by (Held q m c t o) r b n e = absurd (ask_no e)
   where
-    ask-no : {q : Request} → Ask q ≡ No n → ⊥
-    ask-no h = let z : ◌≡◌ {A = Bool} false true = cc in false_true z
+    ask_no : {q : Request} → Ask q ≡ No n → ⊥
+    ask_no h = let z : ◌≡◌ {A = Bool} false true = cc in false_true z
 
 pub refused_alike : (r : Record) (b : ℕ) (n : Refusal) → request_of r ≡ No n → answer_of r b ≡ Refused n
 unfolding request_of answer_of
@@ -196,8 +196,8 @@ to_deaf to.Crossed o r b c h = absurd (false_true h)
 to_deaf to.Moved o r b c h = absurd (false_true h)
 
 module _ (r : Record) (b c : ℕ) where
-  act-deaf : (m : Move) (k : Change) (t : To) (o : Operation) → (deaf_move m && (deaf_change k && deaf_to t)) ≡ true → act_of m k t o r b ≡ act_of m k t o r c
-  act-deaf m k t o h =
+  act_deaf : (m : Move) (k : Change) (t : To) (o : Operation) → (deaf_move m && (deaf_change k && deaf_to t)) ≡ true → act_of m k t o r b ≡ act_of m k t o r c
+  act_deaf m k t o h =
       let rest : (deaf_change k && deaf_to t) ≡ true = and_right (deaf_move m) (deaf_change k && deaf_to t) h in
       rw (
         move_deaf m o r b c (and_left (deaf_move m) (deaf_change k && deaf_to t) h),
@@ -205,19 +205,19 @@ module _ (r : Record) (b c : ℕ) where
         to_deaf t o r b c (and_right (deaf_change k) (deaf_to t) rest),
       )
 
-  held-ignores : (q : Asks) (m : Move) (k : Change) (t : To) (o : Operation) → silent q m k t ≡ true → writing q ≡ true → act_of m k t o r b ≡ act_of m k t o r c
-  held-ignores q m k t o h w = act-deaf m k t o (rw w at h)
+  held_ignores : (q : Asks) (m : Move) (k : Change) (t : To) (o : Operation) → silent q m k t ≡ true → writing q ≡ true → act_of m k t o r b ≡ act_of m k t o r c
+  held_ignores q m k t o h w = act_deaf m k t o (rw w at h)
 
   written : {p q : Request} → Ask p ≡ Ask q → q.write ≡ true → p.write ≡ true
   written {p} {q} e w = let same : p ≡ q = cc in ap (λ (x : Request). x.write) same ∙ w
 
-  micro-ignores : (k : Op) (m : Micro) (q : Request) → in_order k m ≡ true → asked_by m r ≡ Ask q → q.write ≡ true → answered_by m r b ≡ answered_by m r c
-  micro-ignores l (Refuse n) q i e w = refl
-  micro-ignores l Fetch q i e w = absurd (false_true (written e w))
-  micro-ignores l (Held p m k t o) q i e w =
+  micro_ignores : (k : Op) (m : Micro) (q : Request) → in_order k m ≡ true → asked_by m r ≡ Ask q → q.write ≡ true → answered_by m r b ≡ answered_by m r c
+  micro_ignores l (Refuse n) q i e w = refl
+  micro_ignores l Fetch q i e w = absurd (false_true (written e w))
+  micro_ignores l (Held p m k t o) q i e w =
       let f : (fine t k && silent p m k t) ≡ true = and_left _ _ i in
-      ap Next (held-ignores p m k t o (and_right (fine t k) (silent p m k t) f) (sym (writes_so p o r) ∙ written e w))
+      ap Next (held_ignores p m k t o (and_right (fine t k) (silent p m k t) f) (sym (writes_so p o r) ∙ written e w))
 
 pub write_ignores : (r : Record) (b c : ℕ) (q : Request) → request_of r ≡ Ask q → q.write ≡ true → answer_of r b ≡ answer_of r c
 unfolding request_of answer_of
-write_ignores r b c q e w = micro-ignores r b c (decode_of r.ir) (micro_of r) q (micro_in_order r) e w
+write_ignores r b c q e w = micro_ignores r b c (decode_of r.ir) (micro_of r) q (micro_in_order r) e w

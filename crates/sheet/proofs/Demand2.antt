@@ -20,21 +20,21 @@ use Rattle.step.specs.Cycle.{micro_of, begun, asked_by, answered_by}
 use Rattle.sheet.specs.Run.{Ran, also, after, later, run}
 use Rattle.sheet.specs.Sheet.{O, K, row, instruction}
 use Rattle.sheet.proofs.Walk.{and_left, cycle_is, run_walks}
-use Rattle.sheet.proofs.Shapes.{shape-law}
+use Rattle.sheet.proofs.Shapes.{shape_law}
 
 micro_start : (r : Record) → well_formed r ≡ true → r.held ≡ false → micro_of r ≡ Fetch
 unfolding micro_of
 micro_start r w h = rw (w, h)
 
 module _ (r : Record) (b : ℕ → ℕ) (small : r.pc < 65536) (narrow : narrowed r.flags r.x r.y ≡ true) where
-  row-law : (o : Op) → decode_of (b 0) ≡ o → after (asked_by Fetch r) (begun o r (b 0)) (run 7 (later b)) ≡ row r b o
-  row-law Unlisted h = refl
-  row-law (Listed s o) h =
+  row_law : (o : Op) → decode_of (b 0) ≡ o → after (asked_by Fetch r) (begun o r (b 0)) (run 7 (later b)) ≡ row r b o
+  row_law Unlisted h = refl
+  row_law (Listed s o) h =
       ap (also (O (K r b 0)))
       (run_walks 7 (later b) (b 0) 0 r.pbr (regs_of r) (past (mid_of r)) s o
       (cycles_of s (wide_of o r.flags.memsel r.flags.indexsel) (unaligned r.d) r.flags.emulation)
       (record { narrow = narrow; list = refl }) h)
-      ∙ shape-law r b small narrow o s (wide_of o r.flags.memsel r.flags.indexsel) (unaligned r.d) r.flags.emulation h
+      ∙ shape_law r b small narrow o s (wide_of o r.flags.memsel r.flags.indexsel) (unaligned r.d) r.flags.emulation h
 
 -- For every well-formed record at an instruction's start, and any bytes answered: the requests in order, so their number, and
 -- the record after, or refusal 5 at the fetch of a byte that isn't listed.
@@ -42,7 +42,7 @@ pub demand_2 : (r : Record) (b : ℕ → ℕ) → well_formed r ≡ true → r.h
 unfolding run instruction well_formed
 demand_2 r b w h small =
     cycle_is r (b 0) (run 7 (later b)) Fetch (micro_start r w h)
-    ∙ row-law r b small (and_left _ _ w) (decode_of (b 0)) refl
+    ∙ row_law r b small (and_left _ _ w) (decode_of (b 0)) refl
 
 -- ---- a move's next byte: the opcode is held, and the byte that is answered for it isn't looked at
 abbrev pub instead : ℕ → (ℕ → ℕ) → ℕ → ℕ
@@ -51,20 +51,20 @@ instead ir b (suc k) = b (suc k)
 
 module _ (r : Record) (b : ℕ → ℕ) (o : Operation) (w : well_formed r ≡ true) (h : r.held ≡ true) (c : r.tcu ≡ 0)
     (k : decode_of r.ir ≡ Listed Move o) (small : r.pc < 65536) where
-  micro-again : micro_of r ≡ Held Opcode Step Keep On o
+  micro_again : micro_of r ≡ Held Opcode Step Keep On o
   unfolding micro_of
-  micro-again = rw (w, h, k, c)
+  micro_again = rw (w, h, k, c)
 
   again : (f : Record → Ran) → after (asked_by (Held Opcode Step Keep On o) r) (answered_by (Held Opcode Step Keep On o) r (b 0)) f
       ≡ also (O (K r b 0)) (f (under_way r.ir 1 r.pbr (regs_of r) (past (mid_of r))))
   again f = rw c
 
   -- Between a move's bytes likewise.
-  pub between-bytes : run 8 b r ≡ row r (instead r.ir b) (Listed Move o)
+  pub between_bytes : run 8 b r ≡ row r (instead r.ir b) (Listed Move o)
   unfolding run well_formed
-  between-bytes =
-      cycle_is r (b 0) (run 7 (later b)) (Held Opcode Step Keep On o) micro-again
+  between_bytes =
+      cycle_is r (b 0) (run 7 (later b)) (Held Opcode Step Keep On o) micro_again
       ∙ again (run 7 (later b))
       ∙ ap (also (O (K r b 0)))
       (run_walks 7 (later b) r.ir 0 r.pbr (regs_of r) (past (mid_of r)) Move o move (record { narrow = and_left _ _ w; list = refl }) k)
-      ∙ shape-law r (instead r.ir b) small (and_left _ _ w) o Move (wide_of o r.flags.memsel r.flags.indexsel) (unaligned r.d) r.flags.emulation k
+      ∙ shape_law r (instead r.ir b) small (and_left _ _ w) o Move (wide_of o r.flags.memsel r.flags.indexsel) (unaligned r.d) r.flags.emulation k

@@ -15,12 +15,12 @@ use Rattle.sheet.specs.Sheet.{effect, pulling, word_at}
 module _ (r : Record) (b : ℕ → ℕ) (o : Operation) where
   -- an operation on what is read from cycle i on; the low byte is one
   module _ (i : ℕ) (p : b i < 256) where
-    pub effect-16 : effect r b o true i ≡ with (reg_of o) (operated_at (alu_of o) true (get (reg_of o) (regs_of r)) (word_at r b i) r.flags) (regs_of r)
-    effect-16 = two_bytes (alu_of o) (b i) (b (suc i)) (regs_of r) p (reg_of o)
+    pub effect_16 : effect r b o true i ≡ with (reg_of o) (operated_at (alu_of o) true (get (reg_of o) (regs_of r)) (word_at r b i) r.flags) (regs_of r)
+    effect_16 = two_bytes (alu_of o) (b i) (b (suc i)) (regs_of r) p (reg_of o)
 
-    pub effect-8 : effect r b o false i ≡ with (reg_of o) (operated_at (alu_of o) false (get (reg_of o) (regs_of r)) (b i) r.flags) (regs_of r)
-    effect-8 = one_byte (alu_of o) (b i) (regs_of r) p (reg_of o)
+    pub effect_8 : effect r b o false i ≡ with (reg_of o) (operated_at (alu_of o) false (get (reg_of o) (regs_of r)) (b i) r.flags) (regs_of r)
+    effect_8 = one_byte (alu_of o) (b i) (regs_of r) p (reg_of o)
 
   -- a word that is pulled
-  pub pulling-16 : pulling r b o true ≡ set_flags (set_nz r.flags (word_at r b 3) true) (put (reg_of o) (word_at r b 3) (regs_of r))
-  pulling-16 = pulled_word (b 3) (b 4) (regs_of r) (reg_of o)
+  pub pulling_16 : pulling r b o true ≡ set_flags (set_nz r.flags (word_at r b 3) true) (put (reg_of o) (word_at r b 3) (regs_of r))
+  pulling_16 = pulled_word (b 3) (b 4) (regs_of r) (reg_of o)

@@ -33,7 +33,7 @@ use Rattle.act.specs.Act.{regs_after, unless, moved_on, way_of, arrived}
 use Rattle.act.specs.declared.types.Way.{Way}
 use Rattle.act.specs.declared.types.Way.TheVariants.{On, End, Again}
 use Rattle.step.specs.Cycle.{micro_of, begun, answered_by, answer_of}
-use Rattle.sheet.proofs.Walk.{well_under_way, and_left, both_true, false_true, steady, steady-fits}
+use Rattle.sheet.proofs.Walk.{well_under_way, and_left, both_true, false_true, steady, steady_fits}
 use Rattle.sheet.proofs.Shapes.{masks_narrow, index_small_lem}
 use Rattle.sheet.proofs.Rows.{calm, fine, silent, in_order, micro_in_order}
 
@@ -63,7 +63,7 @@ abbrev NarrowAfter : Change → Operation → Record → ℕ → Type 0
 NarrowAfter c o r b = let g : Regs = regs_after c o r b in narrowed g.flags g.x g.y ≡ true
 
 steady_narrow : (c : Change) (o : Operation) (r : Record) (b : ℕ) → steady c ≡ true → narrowed r.flags r.x r.y ≡ true → NarrowAfter c o r b
-steady_narrow c o r b e h = (steady-fits shape.Wdm Plain wdm c o r b e (record { narrow = h; list = refl })).narrow
+steady_narrow c o r b e h = (steady_fits shape.Wdm Plain wdm c o r b e (record { narrow = h; list = refl })).narrow
 
 calm_narrow : (c : Change) (o : Operation) (r : Record) (b : ℕ) → calm c ≡ true → narrowed r.flags r.x r.y ≡ true → NarrowAfter c o r b
 calm_narrow Keep o r b e h = h

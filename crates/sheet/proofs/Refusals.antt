@@ -237,10 +237,10 @@ module _ (r : Record) where
   Told nothing = Unit
   Told (some n) = Given n r
 
-  given-cycle : (s : Shape) (o : Operation) (t : Bool) → well_formed r ≡ true → r.held ≡ true → decode_of r.ir ≡ op.Listed s o
+  given_cycle : (s : Shape) (o : Operation) (t : Bool) → well_formed r ≡ true → r.held ≡ true → decode_of r.ir ≡ op.Listed s o
       → has_cycle s o r.flags r.d r.tcu ≡ t → Told (pick t nothing (some NoCycle))
-  given-cycle s o true w h k t = tt
-  given-cycle s o false w h k t = (w, h, (s, (o, (k, t))))
+  given_cycle s o true w h k t = tt
+  given_cycle s o false w h k t = (w, h, (s, (o, (k, t))))
 
   told : Told (refusal_of r)
   unfolding refusal_of
@@ -251,23 +251,23 @@ module _ (r : Record) where
       go false h o i j k = i
       go true false o i j k = tt
       go true true op.Unlisted i j k = (i, j, k)
-      go true true (op.Listed s o) i j k = given-cycle s o _ i j k refl
+      go true true (op.Listed s o) i j k = given_cycle s o _ i j k refl
 
-  refusal-given : (n : Refusal) → Given n r → refusal_of r ≡ some n
+  refusal_given : (n : Refusal) → Given n r → refusal_of r ≡ some n
   unfolding refusal_of
-  refusal-given Malformed w = rw w
-  refusal-given Unlisted a = rw (a.0, a.1, a.2)
-  refusal-given NoCycle a = rw (a.0, a.1, a.2.1.1.0, a.2.1.1.1)
-  refusal-given Memory a = absurd a
-  refusal-given Budget a = absurd a
-  refusal-given Room a = absurd a
-  refusal-given Bank a = absurd a
+  refusal_given Malformed w = rw w
+  refusal_given Unlisted a = rw (a.0, a.1, a.2)
+  refusal_given NoCycle a = rw (a.0, a.1, a.2.1.1.0, a.2.1.1.1)
+  refusal_given Memory a = absurd a
+  refusal_given Budget a = absurd a
+  refusal_given Room a = absurd a
+  refusal_given Bank a = absurd a
 
   -- Each refusal of a request is given exactly when document 01's table says.
-  pub refused-exactly : (n : Refusal) → (request_of r ≡ No n) ↔ Given n r
-  refused-exactly n = (
+  pub refused_exactly : (n : Refusal) → (request_of r ≡ No n) ↔ Given n r
+  refused_exactly n = (
     λ e. subst Told (sym (request_refuses r) ∙ ap no_of e) told,
-    λ a. no_is (request_of r) n (request_refuses r ∙ refusal-given n a),
+    λ a. no_is (request_of r) n (request_refuses r ∙ refusal_given n a),
   )
 
 refused_is : (a : Answer) (n : Refusal) → refused_of a ≡ some n → a ≡ Refused n
@@ -279,45 +279,45 @@ module _ (r : Record) (b : ℕ) where
   ToldAt nothing = Unit
   ToldAt (some n) = Given n r ⊎ GivenLast n r b
 
-  told-first : (o q : Option Refusal) → Told r o → (o ≡ nothing → ToldAt q) → ToldAt (or_else o q)
-  told-first nothing q h k = k refl
-  told-first (some n) q h k = inl h
+  told_first : (o q : Option Refusal) → Told r o → (o ≡ nothing → ToldAt q) → ToldAt (or_else o q)
+  told_first nothing q h k = k refl
+  told_first (some n) q h k = inl h
 
-  well-asked : refusal_of r ≡ nothing → well_formed r ≡ true
+  well_asked : refusal_of r ≡ nothing → well_formed r ≡ true
   unfolding refusal_of
-  well-asked e = go (well_formed r) refl
+  well_asked e = go (well_formed r) refl
     where
       go : (t : Bool) → well_formed r ≡ t → well_formed r ≡ true
       go true i = i
       go false i = let z : some Malformed ≡ nothing = rw i at e in cc
 
-  told-last : (h : Bool) (o : Op) → well_formed r ≡ true → r.held ≡ h → decode_of b ≡ o → ToldAt (fetch_refusal h o)
-  told-last true o w i k = tt
-  told-last false op.Unlisted w i k = inr (w, i, k)
-  told-last false (op.Listed s o) w i k = tt
+  told_last : (h : Bool) (o : Op) → well_formed r ≡ true → r.held ≡ h → decode_of b ≡ o → ToldAt (fetch_refusal h o)
+  told_last true o w i k = tt
+  told_last false op.Unlisted w i k = inr (w, i, k)
+  told_last false (op.Listed s o) w i k = tt
 
   told_at : ToldAt (refusal_at r b)
   unfolding refusal_at
-  told_at = told-first (refusal_of r) (fetch_refusal r.held (decode_of b)) (told r) (λ e. told-last r.held (decode_of b) (well-asked e) refl refl)
+  told_at = told_first (refusal_of r) (fetch_refusal r.held (decode_of b)) (told r) (λ e. told_last r.held (decode_of b) (well_asked e) refl refl)
 
-  refusal-last : (n : Refusal) → GivenLast n r b → refusal_at r b ≡ some n
+  refusal_last : (n : Refusal) → GivenLast n r b → refusal_at r b ≡ some n
   unfolding refusal_at refusal_of
-  refusal-last Unlisted a = rw (a.0, a.1, a.2)
-  refusal-last Malformed a = absurd a
-  refusal-last NoCycle a = absurd a
-  refusal-last Memory a = absurd a
-  refusal-last Budget a = absurd a
-  refusal-last Room a = absurd a
-  refusal-last Bank a = absurd a
+  refusal_last Unlisted a = rw (a.0, a.1, a.2)
+  refusal_last Malformed a = absurd a
+  refusal_last NoCycle a = absurd a
+  refusal_last Memory a = absurd a
+  refusal_last Budget a = absurd a
+  refusal_last Room a = absurd a
+  refusal_last Bank a = absurd a
 
-  refusal-at : (n : Refusal) → Given n r ⊎ GivenLast n r b → refusal_at r b ≡ some n
+  refusal_at_lem : (n : Refusal) → Given n r ⊎ GivenLast n r b → refusal_at r b ≡ some n
   unfolding refusal_at
-  refusal-at n (inl a) = rw (refusal-given r n a)
-  refusal-at n (inr a) = refusal-last n a
+  refusal_at_lem n (inl a) = rw (refusal_given r n a)
+  refusal_at_lem n (inr a) = refusal_last n a
 
   -- Each refusal of an answer likewise: as of the request, or last by 5 for a fetched byte.
-  pub answered-exactly : (n : Refusal) → (answer_of r b ≡ Refused n) ↔ (Given n r ⊎ GivenLast n r b)
-  answered-exactly n = (
+  pub answered_exactly : (n : Refusal) → (answer_of r b ≡ Refused n) ↔ (Given n r ⊎ GivenLast n r b)
+  answered_exactly n = (
     λ e. subst ToldAt (sym (answer_refuses r b) ∙ ap refused_of e) told_at,
-    λ a. refused_is (answer_of r b) n (answer_refuses r b ∙ refusal-at n a),
+    λ a. refused_is (answer_of r b) n (answer_refuses r b ∙ refusal_at_lem n a),
   )

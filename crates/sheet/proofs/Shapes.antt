@@ -69,68 +69,68 @@ module _ (r : Record) (b : ℕ → ℕ) (small : r.pc < 65536) (narrow : narrowe
   abbrev Law : Shape → (w d e : Bool) → Type 0
   Law s w d e = also (O (K r b 0)) (walk o (cycles_of s w d e) (b 0) 7 (later b) 1 r.pbr (regs_of r) (past (mid_of r))) ≡ sheet r b s o w d e
 
-  pub shape-law : (s : Shape) (w d e : Bool) → decode_of (b 0) ≡ Listed s o → Law s w d e
+  pub shape_law : (s : Shape) (w d e : Bool) → decode_of (b 0) ≡ Listed s o → Law s w d e
   unfolding walk directs
-  shape-law Immediate true d e h = refl
-  shape-law Immediate false d e h = refl
-  shape-law Absolute true d e h = refl
-  shape-law Absolute false d e h = refl
-  shape-law Direct true true e h = rw (back r.pc)
-  shape-law Direct true false e h = refl
-  shape-law Direct false true e h = rw (back r.pc)
-  shape-law Direct false false e h = refl
-  shape-law StoreAbsolute true d e h = refl
-  shape-law StoreAbsolute false d e h = refl
-  shape-law StoreDirect true true e h = rw (back r.pc)
-  shape-law StoreDirect true false e h = refl
-  shape-law StoreDirect false true e h = rw (back r.pc)
-  shape-law StoreDirect false false e h = refl
-  shape-law Implied w d e h = refl
-  shape-law Xba w d e h = refl
-  shape-law Wdm w d e h = refl
-  shape-law Push true d e h = refl
-  shape-law Push false d e h = refl
-  shape-law Pull true d e h = rw (pulls_flags (reg_of o) (b 3) (regs_of r))
-  shape-law Pull false d e h = refl
-  shape-law PullP w d e h = refl
-  shape-law PullB w d e h = refl
-  shape-law Pea w d e h = refl
-  shape-law Pei w true e h = rw (back r.pc)
-  shape-law Pei w false e h = refl
-  shape-law Per w d e h = rw (back (inc r.pc))
-  shape-law Jump w d e h = refl
-  shape-law JumpLong w d e h = refl
-  shape-law JumpIndirect w d e h = refl
-  shape-law JumpIndirectLong w d e h = refl
-  shape-law JumpIndexed w d e h = rw (back (inc r.pc))
-  shape-law Call w d e h = refl
-  shape-law CallIndexed w d e h = refl
-  shape-law CallLong w d e h = refl
-  shape-law Return w d e h = rw (low_then_high (inc r.pc) (b 3) (b 4))
-  shape-law ReturnLong w d e h = rw (low_then_high (inc r.pc) (b 3) (b 4))
-  shape-law BranchLong w d e h = refl
-  shape-law Branch w d false h = go (holds (cond_in o) r.flags) refl
+  shape_law Immediate true d e h = refl
+  shape_law Immediate false d e h = refl
+  shape_law Absolute true d e h = refl
+  shape_law Absolute false d e h = refl
+  shape_law Direct true true e h = rw (back r.pc)
+  shape_law Direct true false e h = refl
+  shape_law Direct false true e h = rw (back r.pc)
+  shape_law Direct false false e h = refl
+  shape_law StoreAbsolute true d e h = refl
+  shape_law StoreAbsolute false d e h = refl
+  shape_law StoreDirect true true e h = rw (back r.pc)
+  shape_law StoreDirect true false e h = refl
+  shape_law StoreDirect false true e h = rw (back r.pc)
+  shape_law StoreDirect false false e h = refl
+  shape_law Implied w d e h = refl
+  shape_law Xba w d e h = refl
+  shape_law Wdm w d e h = refl
+  shape_law Push true d e h = refl
+  shape_law Push false d e h = refl
+  shape_law Pull true d e h = rw (pulls_flags (reg_of o) (b 3) (regs_of r))
+  shape_law Pull false d e h = refl
+  shape_law PullP w d e h = refl
+  shape_law PullB w d e h = refl
+  shape_law Pea w d e h = refl
+  shape_law Pei w true e h = rw (back r.pc)
+  shape_law Pei w false e h = refl
+  shape_law Per w d e h = rw (back (inc r.pc))
+  shape_law Jump w d e h = refl
+  shape_law JumpLong w d e h = refl
+  shape_law JumpIndirect w d e h = refl
+  shape_law JumpIndirectLong w d e h = refl
+  shape_law JumpIndexed w d e h = rw (back (inc r.pc))
+  shape_law Call w d e h = refl
+  shape_law CallIndexed w d e h = refl
+  shape_law CallLong w d e h = refl
+  shape_law Return w d e h = rw (low_then_high (inc r.pc) (b 3) (b 4))
+  shape_law ReturnLong w d e h = rw (low_then_high (inc r.pc) (b 3) (b 4))
+  shape_law BranchLong w d e h = refl
+  shape_law Branch w d false h = go (holds (cond_in o) r.flags) refl
     where
       go : (t : Bool) → holds (cond_in o) r.flags ≡ t → Law Branch w d false
       go true e = rw e
       go false e = rw e
-  shape-law Branch w d true h =
+  shape_law Branch w d true h =
       go (holds (cond_in o) r.flags) (same_page (up r.pc 2) (displaced (up r.pc 2) (low_of (b 1)))) refl refl
     where
       go : (t p : Bool) → holds (cond_in o) r.flags ≡ t → same_page (up r.pc 2) (displaced (up r.pc 2) (low_of (b 1))) ≡ p → Law Branch w d true
       go true true e i = rw (e, i)
       go true false e i = rw (e, i)
       go false p e i = rw e
-  shape-law Move w d e h = go (eqb (dec r.a) 0xFFFF) refl
+  shape_law Move w d e h = go (eqb (dec r.a) 0xFFFF) refl
     where
       go : (z : Bool) → eqb (dec r.a) 0xFFFF ≡ z → Law Move w d e
       go true i = rw i
       go false i = rw (i, back_twice r.pc small)
   -- REP, SEP and PLD change a width or D before their last cycle, which is looked up again
-  shape-law Mask w d e h =
+  shape_law Mask w d e h =
       rw (run_walks 6 (later (later b)) (b 0) 1 r.pbr (masks (flag_in o) (b 1) (regs_of r)) (past (past (mid_of r))) Mask o mask
       (record { narrow = masks_narrow (flag_in o) (b 1) (regs_of r) narrow; list = refl }) h)
-  shape-law PullD w d e h =
+  shape_law PullD w d e h =
       rw (
         run_walks 4 (later (later (later (later b)))) (b 0) 3 r.pbr (set_d (low_set r.d (b 3)) (regs_of r))
             (set_s (pulled Raw r.flags.emulation r.s) (past (mid_of r))) PullD o pull_d (record { narrow = narrow; list = refl }) h,

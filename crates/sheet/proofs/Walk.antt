@@ -149,42 +149,42 @@ low_narrow Y b f g k h =
     (both_true (widths_set g.flags) (index_small g.flags g.x (low_set g.y b)) (widths_of g h) (narrow_y g.flags.indexsel g.x g.y b (index_of g h)))
 
 module _ (s : Shape) (o : Operation) (cs : List Cycle) where
-  operate-fits : (k : Alu) (r : Reg) (b : ℕ) (g : Regs) → Fits s o cs g → Fits s o cs (operates k r Low b g)
+  operate_fits : (k : Alu) (r : Reg) (b : ℕ) (g : Regs) → Fits s o cs g → Fits s o cs (operates k r Low b g)
   unfolding operates pulls
-  operate-fits k A b g h =
+  operate_fits k A b g h =
       let p : Byte = operated k true false (half Low g.a) b g.flags in
       let w = operated_keeps k true false (half Low g.a) b g.flags in
       record { narrow = low_narrow A p.byte p.flags g w h.narrow; list = rw (w.m, w.x, w.e) h.list }
-  operate-fits k X b g h =
+  operate_fits k X b g h =
       let p : Byte = operated k true false (half Low g.x) b g.flags in
       let w = operated_keeps k true false (half Low g.x) b g.flags in
       record { narrow = low_narrow X p.byte p.flags g w h.narrow; list = rw (w.m, w.x, w.e) h.list }
-  operate-fits k Y b g h =
+  operate_fits k Y b g h =
       let p : Byte = operated k true false (half Low g.y) b g.flags in
       let w = operated_keeps k true false (half Low g.y) b g.flags in
       record { narrow = low_narrow Y p.byte p.flags g w h.narrow; list = rw (w.m, w.x, w.e) h.list }
 
-  pull-fits : (r : Reg) (b : ℕ) (g : Regs) → Fits s o cs g → Fits s o cs (pulls r Low b g)
+  pull_fits : (r : Reg) (b : ℕ) (g : Regs) → Fits s o cs g → Fits s o cs (pulls r Low b g)
   unfolding pulls
-  pull-fits A b g h = record { narrow = low_narrow A b g.flags g same_flags h.narrow; list = h.list }
-  pull-fits X b g h = record { narrow = low_narrow X b g.flags g same_flags h.narrow; list = h.list }
-  pull-fits Y b g h = record { narrow = low_narrow Y b g.flags g same_flags h.narrow; list = h.list }
+  pull_fits A b g h = record { narrow = low_narrow A b g.flags g same_flags h.narrow; list = h.list }
+  pull_fits X b g h = record { narrow = low_narrow X b g.flags g same_flags h.narrow; list = h.list }
+  pull_fits Y b g h = record { narrow = low_narrow Y b g.flags g same_flags h.narrow; list = h.list }
 
-  pub steady-fits : (c : Change) (k : Operation) (r : Record) (b : ℕ) → steady c ≡ true → Fits s o cs (regs_of r) → Fits s o cs (regs_after c k r b)
-  steady-fits Keep k r b e h = h
-  steady-fits (Operate Low) k r b e h = operate-fits (alu_of k) (reg_of k) b (regs_of r) h
-  steady-fits (Fill Low) k r b e h = pull-fits (reg_of k) b (regs_of r) h
-  steady-fits (Operate Only) k r b e h = absurd (false_true e)
-  steady-fits (Operate High) k r b e h = absurd (false_true e)
-  steady-fits (Fill Only) k r b e h = absurd (false_true e)
-  steady-fits (Fill High) k r b e h = absurd (false_true e)
-  steady-fits Apply k r b e h = absurd (false_true e)
-  steady-fits Mask k r b e h = absurd (false_true e)
-  steady-fits Status k r b e h = absurd (false_true e)
-  steady-fits Sign k r b e h = absurd (false_true e)
-  steady-fits DirectLow k r b e h = absurd (false_true e)
-  steady-fits DirectHigh k r b e h = absurd (false_true e)
-  steady-fits MoveByte k r b e h = absurd (false_true e)
+  pub steady_fits : (c : Change) (k : Operation) (r : Record) (b : ℕ) → steady c ≡ true → Fits s o cs (regs_of r) → Fits s o cs (regs_after c k r b)
+  steady_fits Keep k r b e h = h
+  steady_fits (Operate Low) k r b e h = operate_fits (alu_of k) (reg_of k) b (regs_of r) h
+  steady_fits (Fill Low) k r b e h = pull_fits (reg_of k) b (regs_of r) h
+  steady_fits (Operate Only) k r b e h = absurd (false_true e)
+  steady_fits (Operate High) k r b e h = absurd (false_true e)
+  steady_fits (Fill Only) k r b e h = absurd (false_true e)
+  steady_fits (Fill High) k r b e h = absurd (false_true e)
+  steady_fits Apply k r b e h = absurd (false_true e)
+  steady_fits Mask k r b e h = absurd (false_true e)
+  steady_fits Status k r b e h = absurd (false_true e)
+  steady_fits Sign k r b e h = absurd (false_true e)
+  steady_fits DirectLow k r b e h = absurd (false_true e)
+  steady_fits DirectHigh k r b e h = absurd (false_true e)
+  steady_fits MoveByte k r b e h = absurd (false_true e)
 
 -- ---- what a record under way does next
 pub micro_under_way : (ir j pbr : ℕ) (g : Regs) (t : Mid) (s : Shape) (o : Operation) (cs : List Cycle) → Fits s o cs g → decode_of ir ≡ Listed s o
@@ -195,18 +195,18 @@ micro_under_way ir j pbr g t s o cs h k = rw (well_under_way ir j pbr g t h.narr
 -- ---- the walk
 module _ (o : Operation) (cs : List Cycle) (ir : ℕ) where
   -- one step of it: `f` goes on along the list, `h` looks it up again
-  abbrev pub stepTo : (tcu : ℕ) → Request → Change → Way → Regs → Mid → (ℕ → Regs → Mid → Ran) → (Record → Ran) → Ran
-  stepTo tcu q c (On pbr) g t f h = also q (pick (steady c) (f pbr g t) (h (arrived (On pbr) ir tcu g t)))
-  stepTo tcu q c (End pbr) g t f h = only q (Next (arrived (End pbr) ir tcu g t))
-  stepTo tcu q c (Again pbr) g t f h = only q (Next (arrived (Again pbr) ir tcu g t))
+  abbrev pub step_to : (tcu : ℕ) → Request → Change → Way → Regs → Mid → (ℕ → Regs → Mid → Ran) → (Record → Ran) → Ran
+  step_to tcu q c (On pbr) g t f h = also q (pick (steady c) (f pbr g t) (h (arrived (On pbr) ir tcu g t)))
+  step_to tcu q c (End pbr) g t f h = only q (Next (arrived (End pbr) ir tcu g t))
+  step_to tcu q c (Again pbr) g t f h = only q (Next (arrived (Again pbr) ir tcu g t))
 
-  abbrev pub stepBy : Cycle → (tcu : ℕ) → Record → ℕ → (ℕ → Regs → Mid → Ran) → (Record → Ran) → Ran
-  stepBy Absent tcu u b f h = record { requests = []; out = Refused NoCycle }
-  stepBy (Present q m c t) tcu u b f h = stepTo tcu (ask_of q o u) c (way_of t o u b) (regs_after c o u b) (mid_after m o u b) f h
+  abbrev pub step_by : Cycle → (tcu : ℕ) → Record → ℕ → (ℕ → Regs → Mid → Ran) → (Record → Ran) → Ran
+  step_by Absent tcu u b f h = record { requests = []; out = Refused NoCycle }
+  step_by (Present q m c t) tcu u b f h = step_to tcu (ask_of q o u) c (way_of t o u b) (regs_after c o u b) (mid_after m o u b) f h
 
   unfoldable pub walk : (n : ℕ) → (ℕ → ℕ) → (tcu pbr : ℕ) → Regs → Mid → Ran
   walk zero b tcu pbr g t = record { requests = []; out = Next (under_way ir tcu pbr g t) }
-  walk (suc n) b tcu pbr g t = stepBy (get_or cs tcu Absent) tcu (under_way ir tcu pbr g t) (b 0) (walk n (later b) (next_cycle tcu)) (run n (later b))
+  walk (suc n) b tcu pbr g t = step_by (get_or cs tcu Absent) tcu (under_way ir tcu pbr g t) (b 0) (walk n (later b) (next_cycle tcu)) (run n (later b))
 
 -- a run and the walk make the same step, where they go on alike
 module _ (s : Shape) (o : Operation) (cs : List Cycle) (ir tcu pbr : ℕ) (g : Regs) (t : Mid) (fits : Fits s o cs g) (f : ℕ → Regs → Mid → Ran) (h : Record → Ran)
@@ -215,20 +215,20 @@ module _ (s : Shape) (o : Operation) (cs : List Cycle) (ir tcu pbr : ℕ) (g : R
   u = under_way ir tcu pbr g t
 
   to_same : (q : Request) (c : Change) (b : ℕ) (w : Way) (t' : Mid)
-      → after (Ask q) (Next (arrived w ir tcu (regs_after c o u b) t')) h ≡ stepTo o cs ir tcu q c w (regs_after c o u b) t' f h
+      → after (Ask q) (Next (arrived w ir tcu (regs_after c o u b) t')) h ≡ step_to o cs ir tcu q c w (regs_after c o u b) t' f h
   unfolding ended
   to_same q c b (On p) t' = rw (not_zero (tcu % 8)) (ap (also q) (go (steady c) refl))
     where
       go : (v : Bool) → steady c ≡ v
           → h (arrived (On p) ir tcu (regs_after c o u b) t') ≡ pick (steady c) (f p (regs_after c o u b) t') (h (arrived (On p) ir tcu (regs_after c o u b) t'))
-      go true e = rw e (alike p (regs_after c o u b) t' (steady-fits s o cs c o u b e fits))
+      go true e = rw e (alike p (regs_after c o u b) t' (steady_fits s o cs c o u b e fits))
       go false e = rw e
   to_same q c b (End p) t' = refl
   to_same q c b (Again p) t' = refl
 
-  by-same : (x : Cycle) (b : ℕ) → after (asked_by (carrying o x) u) (answered_by (carrying o x) u b) h ≡ stepBy o cs ir x tcu u b f h
-  by-same Absent b = refl
-  by-same (Present q m c k) b = to_same (ask_of q o u) c b (way_of k o u b) (mid_after m o u b)
+  by_same : (x : Cycle) (b : ℕ) → after (asked_by (carrying o x) u) (answered_by (carrying o x) u b) h ≡ step_by o cs ir x tcu u b f h
+  by_same Absent b = refl
+  by_same (Present q m c k) b = to_same (ask_of q o u) c b (way_of k o u b) (mid_after m o u b)
 
 pub cycle_is : (u : Record) (b : ℕ) (f : Record → Ran) (m : Micro) → micro_of u ≡ m
     → after (request_of u) (answer_of u b) f ≡ after (asked_by m u) (answered_by m u b) f
@@ -242,5 +242,5 @@ run_walks zero b ir j pbr g t s o cs h k = refl
 run_walks (suc n) b ir j pbr g t s o cs h k =
     let x : Cycle = get_or cs (suc j) Absent in
     cycle_is (under_way ir (suc j) pbr g t) (b 0) (run n (later b)) (carrying o x) (micro_under_way ir j pbr g t s o cs h k)
-    ∙ by-same s o cs ir (suc j) pbr g t h (walk o cs ir n (later b) (next_cycle (suc j))) (run n (later b))
+    ∙ by_same s o cs ir (suc j) pbr g t h (walk o cs ir n (later b) (next_cycle (suc j))) (run n (later b))
     (λ pbr' g' t' fits. run_walks n (later b) ir (suc j % 8) pbr' g' t' s o cs fits k) x (b 0)

@@ -22,9 +22,9 @@ use Rattle.opcodes.specs.declared.types.Operation.{Operation}
 use Rattle.opcodes.specs.declared.types.Shape.TheVariants.{Move}
 use Rattle.sheet.specs.Run.{Ran, run}
 use Rattle.sheet.specs.Sheet.{sheet, row, instruction}
-use Rattle.sheet.specs.Moves.{go_on, others, run_move, index_after, moved, x_after, y_after, seven, sevens, wholeMove}
+use Rattle.sheet.specs.Moves.{go_on, others, run_move, index_after, moved, x_after, y_after, seven, sevens, whole_move}
 use Rattle.sheet.proofs.Walk.{and_left, and_right, false_true}
-use Rattle.sheet.proofs.Demand2.{demand_2, instead, between-bytes}
+use Rattle.sheet.proofs.Demand2.{demand_2, instead, between_bytes}
 use Rattle.sheet.proofs.Kept.{well_ended}
 
 -- ---- what an end would make so is so already
@@ -95,10 +95,10 @@ module _ (ups : Bool) (ir : ℕ) where
     tempbank = 0;
   }
 
-  ended-between : (r : Record) (m bank : ℕ) → Tidy r → r.a ≡ suc m → suc m < 65536
+  ended_between : (r : Record) (m bank : ℕ) → Tidy r → r.a ≡ suc m → suc m < 65536
       → ended ir true r.pbr r.pc r.s bank (moves ups (regs_of r)) ≡ between r m bank
   unfolding ended moves
-  ended-between r m bank t e small =
+  ended_between r m bank t e small =
       rw (
         e,
         one_fewer m small,
@@ -109,10 +109,10 @@ module _ (ups : Bool) (ir : ℕ) where
         index_twice r.flags.indexsel (stepped ups r.y),
       )
 
-  ended-done : (r : Record) (bank : ℕ) → Tidy r → r.a ≡ 0
+  ended_done : (r : Record) (bank : ℕ) → Tidy r → r.a ≡ 0
       → ended ir false r.pbr (up r.pc 3) r.s bank (moves ups (regs_of r)) ≡ moved r (x_after r ups 1) (y_after r ups 1) bank
   unfolding ended moves dec
-  ended-done r bank t e =
+  ended_done r bank t e =
       rw (
         e,
         t.m,
@@ -124,43 +124,43 @@ module _ (ups : Bool) (ir : ℕ) where
 
 -- ---- a byte's row, the opcode being held or just fetched
 module _ (o : Operation) (ir : ℕ) where
-  abbrev byteRow : Record → (ℕ → ℕ) → Ran
-  byteRow r b = sheet r (instead ir b) Move o false false false
+  abbrev byte_row : Record → (ℕ → ℕ) → Ran
+  byte_row r b = sheet r (instead ir b) Move o false false false
 
-  byte_more : (r : Record) (b : ℕ → ℕ) (m : ℕ) → Tidy r → r.a ≡ suc m → suc m < 65536 → (byteRow r b).out ≡ Next (between (flag_in o) ir r m (b 1))
+  byte_more : (r : Record) (b : ℕ → ℕ) (m : ℕ) → Tidy r → r.a ≡ suc m → suc m < 65536 → (byte_row r b).out ≡ Next (between (flag_in o) ir r m (b 1))
   byte_more r b m t e small =
-      rw (ap (λ (n : ℕ). eqb (dec n) 0xFFFF) e ∙ more_left m small) (ap {B = Answer} Next (ended-between (flag_in o) ir r m (b 1) t e small))
+      rw (ap (λ (n : ℕ). eqb (dec n) 0xFFFF) e ∙ more_left m small) (ap {B = Answer} Next (ended_between (flag_in o) ir r m (b 1) t e small))
 
-  byte_last : (r : Record) (b : ℕ → ℕ) → Tidy r → r.a ≡ 0 → (byteRow r b).out ≡ Next (moved r (x_after r (flag_in o) 1) (y_after r (flag_in o) 1) (b 1))
+  byte_last : (r : Record) (b : ℕ → ℕ) → Tidy r → r.a ≡ 0 → (byte_row r b).out ≡ Next (moved r (x_after r (flag_in o) 1) (y_after r (flag_in o) 1) (b 1))
   unfolding dec
-  byte_last r b t e = rw (ap (λ (n : ℕ). eqb (dec n) 0xFFFF) e) (ap {B = Answer} Next (ended-done (flag_in o) ir r (b 1) t e))
+  byte_last r b t e = rw (ap (λ (n : ℕ). eqb (dec n) 0xFFFF) e) (ap {B = Answer} Next (ended_done (flag_in o) ir r (b 1) t e))
 
 -- ---- the bytes after the first are those of the record after it
 module _ (ups : Bool) (ir : ℕ) (r : Record) (m bank : ℕ) (b : ℕ → ℕ → ℕ) where
   abbrev next : Record
   next = between ups ir r m bank
 
-  index-next : (narrow : Bool) (v i : ℕ) → index_after ups narrow (index narrow (stepped ups v)) i ≡ index_after ups narrow v (suc i)
-  index-next narrow v zero = refl
-  index-next narrow v (suc i) = ap (λ (u : ℕ). index narrow (stepped ups u)) (index-next narrow v i)
+  index_next : (narrow : Bool) (v i : ℕ) → index_after ups narrow (index narrow (stepped ups v)) i ≡ index_after ups narrow v (suc i)
+  index_next narrow v zero = refl
+  index_next narrow v (suc i) = ap (λ (u : ℕ). index narrow (stepped ups u)) (index_next narrow v i)
 
-  seven-next : (i : ℕ) → seven next ups (others b) i ≡ seven r ups b (suc i)
-  seven-next i = rw (index-next r.flags.indexsel r.x i, index-next r.flags.indexsel r.y i)
+  seven_next : (i : ℕ) → seven next ups (others b) i ≡ seven r ups b (suc i)
+  seven_next i = rw (index_next r.flags.indexsel r.x i, index_next r.flags.indexsel r.y i)
 
-  sevens-next : (i n : ℕ) → sevens next ups (others b) i n ≡ sevens r ups b (suc i) n
-  sevens-next i zero = refl
-  sevens-next i (suc n) =
-      ap (λ (q : List Request). q ++ sevens next ups (others b) (suc i) n) (seven-next i)
-      ∙ ap (λ (l : List Request). seven r ups b (suc i) ++ l) (sevens-next (suc i) n)
+  sevens_next : (i n : ℕ) → sevens next ups (others b) i n ≡ sevens r ups b (suc i) n
+  sevens_next i zero = refl
+  sevens_next i (suc n) =
+      ap (λ (q : List Request). q ++ sevens next ups (others b) (suc i) n) (seven_next i)
+      ∙ ap (λ (l : List Request). seven r ups b (suc i) ++ l) (sevens_next (suc i) n)
 
   -- so the whole move is the first byte's cycles, then the whole move from there
-  whole-next : r.a ≡ suc m
-      → record { requests = seven r ups b 0 ++ (wholeMove next ups (others b)).requests; out = (wholeMove next ups (others b)).out } ≡ wholeMove r ups b
-  unfolding wholeMove
-  whole-next e =
-      ap (λ (l : List Request). ran (seven r ups b 0 ++ l) (x_after next ups (suc m)) (y_after next ups (suc m))) (sevens-next 0 (suc m))
-      ∙ ap (λ (v : ℕ). ran (sevens r ups b 0 (suc (suc m))) v (y_after next ups (suc m))) (index-next r.flags.indexsel r.x (suc m))
-      ∙ ap (λ (v : ℕ). ran (sevens r ups b 0 (suc (suc m))) (x_after r ups (suc (suc m))) v) (index-next r.flags.indexsel r.y (suc m))
+  whole_next : r.a ≡ suc m
+      → record { requests = seven r ups b 0 ++ (whole_move next ups (others b)).requests; out = (whole_move next ups (others b)).out } ≡ whole_move r ups b
+  unfolding whole_move
+  whole_next e =
+      ap (λ (l : List Request). ran (seven r ups b 0 ++ l) (x_after next ups (suc m)) (y_after next ups (suc m))) (sevens_next 0 (suc m))
+      ∙ ap (λ (v : ℕ). ran (sevens r ups b 0 (suc (suc m))) v (y_after next ups (suc m))) (index_next r.flags.indexsel r.x (suc m))
+      ∙ ap (λ (v : ℕ). ran (sevens r ups b 0 (suc (suc m))) (x_after r ups (suc (suc m))) v) (index_next r.flags.indexsel r.y (suc m))
       ∙ rw e
     where
       ran : List Request → (x y : ℕ) → Ran
@@ -171,39 +171,39 @@ module _ (o : Operation) (ir : ℕ) (k : decode_of ir ≡ Listed Move o) where
   abbrev ups : Bool
   ups = flag_in o
 
-  next-runs : (r : Record) (m bank : ℕ) (c : ℕ → ℕ) → Tidy r → r.a ≡ suc m → suc m < 65536 → r.pc < 65536
-      → run 8 c (between ups ir r m bank) ≡ byteRow o ir (between ups ir r m bank) c
-  next-runs r m bank c t e small near =
-      between-bytes (between ups ir r m bank) c o
-      (subst (λ (u : Record). well_formed u ≡ true) (ended-between ups ir r m bank t e small)
+  next_runs : (r : Record) (m bank : ℕ) (c : ℕ → ℕ) → Tidy r → r.a ≡ suc m → suc m < 65536 → r.pc < 65536
+      → run 8 c (between ups ir r m bank) ≡ byte_row o ir (between ups ir r m bank) c
+  next_runs r m bank c t e small near =
+      between_bytes (between ups ir r m bank) c o
+      (subst (λ (u : Record). well_formed u ≡ true) (ended_between ups ir r m bank t e small)
       (well_ended ir true r.pbr r.pc r.s bank (moves ups (regs_of r))))
       refl refl k near
 
-  move-law : (m n : ℕ) (r : Record) (b : ℕ → ℕ → ℕ) → r.a ≡ m → m < 65536 → m < n → r.pc < 65536 → Tidy r
-      → run 8 (b 0) r ≡ byteRow o ir r (b 0) → run_move n b r ≡ wholeMove r ups b
-  unfolding run_move wholeMove
-  move-law zero zero r b e small fits near t h = absurd (not-suc-le-zero fits)
-  move-law (suc m) zero r b e small fits near t h = absurd (not-suc-le-zero fits)
-  move-law zero (suc n) r b e small fits near t h =
+  move_law : (m n : ℕ) (r : Record) (b : ℕ → ℕ → ℕ) → r.a ≡ m → m < 65536 → m < n → r.pc < 65536 → Tidy r
+      → run 8 (b 0) r ≡ byte_row o ir r (b 0) → run_move n b r ≡ whole_move r ups b
+  unfolding run_move whole_move
+  move_law zero zero r b e small fits near t h = absurd (not-suc-le-zero fits)
+  move_law (suc m) zero r b e small fits near t h = absurd (not-suc-le-zero fits)
+  move_law zero (suc n) r b e small fits near t h =
       ap (λ (u : Ran). go_on u.requests u.out (run_move n (others b))) h
       ∙ ap (λ (u : Answer). go_on (seven r ups b 0) u (run_move n (others b))) (byte_last o ir r (b 0) t e)
       ∙ rw e
-  move-law (suc m) (suc n) r b e small fits near t h =
+  move_law (suc m) (suc n) r b e small fits near t h =
       let next : Record = between ups ir r m (b 0 1) in
       ap (λ (u : Ran). go_on u.requests u.out (run_move n (others b))) h
       ∙ ap (λ (u : Answer). go_on (seven r ups b 0) u (run_move n (others b))) (byte_more o ir r (b 0) m t e small)
       ∙ ap (λ (u : Ran). record { requests = seven r ups b 0 ++ u.requests; out = u.out })
-      (move-law m n next (others b) refl (omega arith) (omega arith) near (record { m = t.m; x = t.x; home = t.home })
-      (next-runs r m (b 0 1) (b 1) t e small near))
-      ∙ whole-next ups ir r m (b 0 1) b e
+      (move_law m n next (others b) refl (omega arith) (omega arith) near (record { m = t.m; x = t.x; home = t.home })
+      (next_runs r m (b 0 1) (b 1) t e small near))
+      ∙ whole_next ups ir r m (b 0 1) b e
 
 -- For every well-formed record at an instruction's start, and any bytes answered, of which the first is MVN or MVP: byte after
 -- byte, as many as it takes, is the whole move.
-pub whole_move : (r : Record) (b : ℕ → ℕ → ℕ) (o : Operation) (n : ℕ) → well_formed r ≡ true → r.held ≡ false → r.pc < 65536 → r.a < 65536
-    → decode_of (b 0 0) ≡ Listed Move o → r.a < n → run_move n b r ≡ wholeMove r (flag_in o) b
+pub whole_move_lem : (r : Record) (b : ℕ → ℕ → ℕ) (o : Operation) (n : ℕ) → well_formed r ≡ true → r.held ≡ false → r.pc < 65536 → r.a < 65536
+    → decode_of (b 0 0) ≡ Listed Move o → r.a < n → run_move n b r ≡ whole_move r (flag_in o) b
 unfolding instruction
-whole_move r b o n w h near small k fits =
-    move-law o (b 0 0) k r.a n r b refl small fits near (tidy_start r w h)
+whole_move_lem r b o n w h near small k fits =
+    move_law o (b 0 0) k r.a n r b refl small fits near (tidy_start r w h)
     (demand_2 r (b 0) w h near ∙ ap (row r (b 0)) k)
 
 -- ---- the count alone
@@ -214,7 +214,7 @@ sevens_length r ups b i (suc n) = omega (arith, sevens_length r ups b (suc i) n)
 -- A move of A + 1 bytes takes seven cycles for each: 7 where A is 0, 458,752 where it is FFFF.
 pub move_count : (r : Record) (b : ℕ → ℕ → ℕ) (o : Operation) (n : ℕ) → well_formed r ≡ true → r.held ≡ false → r.pc < 65536 → r.a < 65536
     → decode_of (b 0 0) ≡ Listed Move o → r.a < n → length (run_move n b r).requests ≡ 7 * (r.a + 1)
-unfolding wholeMove
+unfolding whole_move
 move_count r b o n w h near small k fits =
-    ap (λ (t : Ran). length t.requests) (whole_move r b o n w h near small k fits)
+    ap (λ (t : Ran). length t.requests) (whole_move_lem r b o n w h near small k fits)
     ∙ omega (arith, sevens_length r (flag_in o) b 0 (suc r.a))

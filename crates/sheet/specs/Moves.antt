@@ -92,5 +92,5 @@ module _ (r : Record) (ups : Bool) (b : ℕ → ℕ → ℕ) where
   sevens i (suc n) = seven i ++ sevens (suc i) n
 
   -- A + 1 bytes, A being 16 bits at either width; DBR becomes the last byte's destination bank
-  unfoldable pub wholeMove : Ran
-  wholeMove = record { requests = sevens 0 (suc r.a); out = Next (moved r (x_after r ups (suc r.a)) (y_after r ups (suc r.a)) (b r.a 1)) }
+  unfoldable pub whole_move : Ran
+  whole_move = record { requests = sevens 0 (suc r.a); out = Next (moved r (x_after r ups (suc r.a)) (y_after r ups (suc r.a)) (b r.a 1)) }

@@ -97,11 +97,11 @@ module _ (r : Record) (b : ℕ → ℕ) where
   pulling o false = pulls (reg_of o) Only (b 3) regs
 
   -- the end, at a program counter and with a stack pointer, in this bank or in another
-  abbrev pub endsIn : (pbr pc s : ℕ) → Regs → Answer
-  endsIn pbr p s g = Next (ended (b 0) false pbr p s r.dbr g)
+  abbrev pub ends_in : (pbr pc s : ℕ) → Regs → Answer
+  ends_in pbr p s g = Next (ended (b 0) false pbr p s r.dbr g)
 
   abbrev pub ends : (pc s : ℕ) → Regs → Answer
-  ends p s g = endsIn r.pbr p s g
+  ends p s g = ends_in r.pbr p s g
 
   abbrev pub sheet : Shape → Operation → (w d e : Bool) → Ran
   -- immediate: 2 + w
@@ -206,7 +206,7 @@ module _ (r : Record) (b : ℕ → ℕ) where
   -- JMP long: 4
   sheet JumpLong o w d e = record {
     requests = O (K 0) ∷ P (K 1) ∷ P (K 2) ∷ P (K 3) ∷ [];
-    out = endsIn (b 3) AA S regs;
+    out = ends_in (b 3) AA S regs;
   }
   -- JMP (a): 5
   sheet JumpIndirect o w d e = record {
@@ -216,7 +216,7 @@ module _ (r : Record) (b : ℕ → ℕ) where
   -- JMP [a]: 6
   sheet JumpIndirectLong o w d e = record {
     requests = O (K 0) ∷ P (K 1) ∷ P (K 2) ∷ D (at 0 AA) ∷ D (at 0 (up AA 1)) ∷ D (at 0 (up AA 2)) ∷ [];
-    out = endsIn (b 5) (word_at 3) S regs;
+    out = ends_in (b 5) (word_at 3) S regs;
   }
   -- JMP (a,x): 6
   sheet JumpIndexed o w d e = record {
@@ -242,7 +242,7 @@ module _ (r : Record) (b : ℕ → ℕ) where
       let s₁ : ℕ = down S 1 in record {
         requests = O (K 0) ∷ P (K 1) ∷ P (K 2) ∷ W (at 0 S) r.pbr ∷ I (at 0 (inc s₁)) ∷ P (K 3)
             ∷ W (at 0 s₁) (high_of (pc 3)) ∷ W (at 0 (down S 2)) (low_of (pc 3)) ∷ [];
-        out = endsIn (b 5) AA (down S 3) regs;
+        out = ends_in (b 5) AA (down S 3) regs;
       }
   -- RTS: 6; PC is one more than what was pulled
   sheet Return o w d e =
@@ -257,7 +257,7 @@ module _ (r : Record) (b : ℕ → ℕ) where
       let s₂ : ℕ = pulled Raw E s₁ in
       let s₃ : ℕ = pulled Raw E s₂ in record {
         requests = O (K 0) ∷ I (K 1) ∷ I (K 1) ∷ D (at 0 s₁) ∷ D (at 0 s₂) ∷ D (at 0 s₃) ∷ [];
-        out = endsIn (b 5) (inc (word_at 3)) s₃ regs;
+        out = ends_in (b 5) (inc (word_at 3)) s₃ regs;
       }
   -- a branch: 2; taken it has one cycle more and, in emulation, another one where it leads to another page
   sheet Branch o w d e =

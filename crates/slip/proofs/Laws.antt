@@ -11,17 +11,17 @@ use Rattle.slip.specs.Slip.{value_of, base_of, number_from}
 use Rattle.slip.specs.declared.types.Number.TheVariants.{Good, Bad}
 
 module _ (t : List ℕ) (hex : Bool) (n i d : ℕ) (e : d ≡ value_of (get_or t i 0)) (h : i < length t) where
-  pub not-a-digit : base_of hex ≤ d → number_from hex n (drop i t) ≡ Bad
+  pub not_a_digit : base_of hex ≤ d → number_from hex n (drop i t) ≡ Bad
   unfolding number_from
-  not-a-digit k = rw (drop-cons t i 0 h, ← e, le-leb _ _ k)
+  not_a_digit k = rw (drop-cons t i 0 h, ← e, le-leb _ _ k)
 
   pub too_large : d < base_of hex → 4294967295 < n * base_of hex + d → number_from hex n (drop i t) ≡ Bad
   unfolding number_from
   too_large k l = rw (drop-cons t i 0 h, ← e, lt-leb _ _ k, lt-ltb _ _ l)
 
-  pub next-digit : d < base_of hex → n * base_of hex + d ≤ 4294967295 → number_from hex n (drop i t) ≡ number_from hex (n * base_of hex + d) (drop (i + 1) t)
+  pub next_digit : d < base_of hex → n * base_of hex + d ≤ 4294967295 → number_from hex n (drop i t) ≡ number_from hex (n * base_of hex + d) (drop (i + 1) t)
   unfolding number_from
-  next-digit k l = rw (drop-cons t i 0 h, ← e, lt-leb _ _ k, le-ltb _ _ l, add-one i)
+  next_digit k l = rw (drop-cons t i 0 h, ← e, lt-leb _ _ k, le-ltb _ _ l, add-one i)
 
 pub all_digits : (t : List ℕ) (hex : Bool) (n i : ℕ) → length t ≤ i → number_from hex n (drop i t) ≡ Good n
 unfolding number_from

@@ -1,18 +1,16 @@
 // Lines of standard input, byte by byte, so that none is taken which another reader of it should have.
 use crate::meaning::meant;
-use libc::STDIN_FILENO;
+use std::io;
+use std::io::Read;
 
-// A character, 256 at the end of a line, 257 at that of the input, 258 where it can't be read.
-fn get() -> u32 {
+// A character, 256 at the end of a line, 257 at that of the input; or why it can't be read.
+fn get(input: &mut impl Read) -> io::Result<u32> {
     let mut one = [0u8; 1];
-    let got = libc::read(STDIN_FILENO, &mut one);
-    if got < 0 {
-        return 258;
-    }
+    let got = input.read(&mut one)?;
     if got == 0 {
-        return 257;
+        return Ok(257);
     }
-    byte_of(&one)
+    Ok(byte_of(&one))
 }
 
 fn byte_of(one: &[u8; 1]) -> u32 {
@@ -29,20 +27,18 @@ fn put(room: &mut [u8; 8], at: usize, b: u8) {
     }
 }
 
-// How many characters a line has, at most 8: what is longer is no word of ours. 9 is the end of the input, 10 a read that failed.
-fn line(room: &mut [u8; 8]) -> usize {
+// How many characters a line has, at most 8: what is longer is no word of ours. 9 is the end of the input.
+fn line(input: &mut impl Read, room: &mut [u8; 8]) -> io::Result<usize> {
     let mut n: usize = 0;
-    let mut turns = u64::MAX;
-    while turns > 0 {
-        let got = get();
+    for _ in 0..u64::MAX {
+        let got = get(input)?;
         if got > 255 {
-            return ended(room, n, got);
+            return Ok(ended(room, n, got));
         }
         put(room, n, (got % 256) as u8);
         n = more(n);
-        turns -= 1;
     }
-    9
+    Ok(9)
 }
 
 fn more(n: usize) -> usize {
@@ -68,18 +64,12 @@ fn ended(room: &[u8; 8], n: usize, got: u32) -> usize {
     if got == 256 {
         return without_cr(room, n);
     }
-    if got == 258 {
-        return 10;
-    }
     if n == 0 { 9 } else { n }
 }
 
-// What the next line means to a request that writes or reads; the end of the input is as good as `quit`. 260 is a read that failed.
-pub fn next(write: bool) -> u32 {
+// What the next line means to a request that writes or reads; the end of the input is as good as `quit`.
+pub fn next(input: &mut impl Read, write: bool) -> io::Result<u32> {
     let mut room = [0u8; 8];
-    let n = line(&mut room);
-    if n == 10 {
-        return 260;
-    }
-    meant(&room, n, write)
+    let n = line(input, &mut room)?;
+    Ok(meant(&room, n, write))
 }

@@ -7,6 +7,7 @@ use slip::number::hex;
 use slip::types::Number;
 
 // Two hex digits, or 259.
+#[tactic(auto, unfolding(crate::specs::Stall::byte_meant))]
 fn byte(room: &[u8; 8]) -> u32
     ensures { result ≡ byte_meant room.now }
 {

@@ -5,6 +5,7 @@ ghost use Rattle.stall.specs.Stall.{digit_of, letter_of, direction_of, text_of, 
 
 use packed::bytes::put;
 
+#[tactic(auto, unfolding(crate::specs::Stall::digit_of, trace::specs::Text::hex_digit))]
 fn digit(n: u64) -> u8
     ensures { result ≡ digit_of n }
 {
@@ -12,6 +13,7 @@ fn digit(n: u64) -> u8
     if d < 10 { 48 + d } else { 55 + d }
 }
 
+#[tactic(auto, unfolding(crate::specs::Stall::letter_of))]
 fn letter(n: u64) -> u8
     ensures { result ≡ letter_of n }
 {
@@ -32,6 +34,7 @@ pub fn writes(n: u64) -> bool
     n / 1_099_511_627_776 % 2 == 1
 }
 
+#[tactic(auto, unfolding(crate::specs::Stall::direction_of))]
 fn direction(n: u64) -> u8
     ensures { result ≡ direction_of n }
 {
@@ -46,6 +49,7 @@ pub fn refusal(n: u64) -> u8
 }
 
 // The fields of a trace's line after the cycle.
+#[tactic(auto, unfolding(crate::specs::Stall::text_of))]
 pub fn text(n: u64) -> [u8; 15]
     ensures { result ≡ text_of n }
 {
@@ -85,6 +89,7 @@ fn longer(n: u64, b: u8) -> u64
 }
 
 // How many cycles a session has completed.
+#[tactic(auto, unfolding(crate::specs::Stall::count_of))]
 pub fn count(session: &[u8; 40]) -> u64
     ensures { result ≡ count_of session.now }
 {

@@ -9,22 +9,22 @@ use Rattle.cpu.specs.declared.types.Asked.TheVariants.{Ask, No}
 use Rattle.cpu.specs.declared.types.Answer.{Answer}
 use Rattle.cpu.specs.declared.types.Answer.TheVariants.{Next, Refused}
 
-abbrev pub askedNumber : Asked → ℕ
-askedNumber (Ask q) = 0
-askedNumber (No n) = number_of n
+abbrev pub asked_number : Asked → ℕ
+asked_number (Ask q) = 0
+asked_number (No n) = number_of n
 
-abbrev pub answerNumber : Answer → ℕ
-answerNumber (Next r) = 0
-answerNumber (Refused n) = number_of n
+abbrev pub answer_number : Answer → ℕ
+answer_number (Next r) = 0
+answer_number (Refused n) = number_of n
 
 -- the kinds in document 01's order
-abbrev pub kindNumber : Kind → ℕ
-kindNumber Opcode = 0
-kindNumber Program = 1
-kindNumber Data = 2
-kindNumber Invalid = 3
+abbrev pub kind_number : Kind → ℕ
+kind_number Opcode = 0
+kind_number Program = 1
+kind_number Data = 2
+kind_number Invalid = 3
 
 -- direction (1 a write), kind, address, byte
-abbrev pub askedValues : Asked → List ℕ
-askedValues (Ask q) = bit q.write ∷ kindNumber q.kind ∷ q.addr ∷ q.byte ∷ []
-askedValues (No n) = []
+abbrev pub asked_values : Asked → List ℕ
+asked_values (Ask q) = bit q.write ∷ kind_number q.kind ∷ q.addr ∷ q.byte ∷ []
+asked_values (No n) = []

@@ -62,15 +62,15 @@ module _ (r : Record) (m : List ℕ) where
   abbrev pub there : ℕ → ℕ
   there p = get_or m p 0
 
-  abbrev pub wordThere : ℕ → ℕ
-  wordThere p = word (there p) (there (inc p))
+  abbrev pub word_there : ℕ → ℕ
+  word_there p = word (there p) (there (inc p))
 
   abbrev pub opcode : ℕ
   opcode = there r.pc
 
   -- the operand of two bytes
   abbrev pub operand : ℕ
-  operand = wordThere (up r.pc 1)
+  operand = word_there (up r.pc 1)
 
   -- an operand in the data bank that lies inside the memory, both of its bytes
   abbrev pub inside : ℕ → Bool
@@ -93,30 +93,30 @@ module _ (r : Record) (m : List ℕ) where
       let to : ℕ = displaced past (low_of (there (up r.pc 1))) in
       kept (pick taken (3 + bit (r.flags.emulation && not (same_page past to))) 2) (pick taken to past) r
 
-  abbrev pub legBy : Quick → Leg
-  legBy Slow = kept 0 r.pc r
-  legBy (Read mode k g) = let w : Bool = wide_reg g r.flags.memsel r.flags.indexsel in reading (spot_of mode w) k g w
-  legBy (Store mode o) = storing (spot_of mode (wide_source o r.flags.memsel r.flags.indexsel))
-  legBy (Do k) = leg 2 (up r.pc 1) (stack_of k r.s (regs_of r)) r.dbr (applied k r.s (regs_of r))
-  legBy (If k want) = branching (goes k want r.flags)
-  legBy Jump = kept 3 operand r
+  abbrev pub leg_by : Quick → Leg
+  leg_by Slow = kept 0 r.pc r
+  leg_by (Read mode k g) = let w : Bool = wide_reg g r.flags.memsel r.flags.indexsel in reading (spot_of mode w) k g w
+  leg_by (Store mode o) = storing (spot_of mode (wide_source o r.flags.memsel r.flags.indexsel))
+  leg_by (Do k) = leg 2 (up r.pc 1) (stack_of k r.s (regs_of r)) r.dbr (applied k r.s (regs_of r))
+  leg_by (If k want) = branching (goes k want r.flags)
+  leg_by Jump = kept 3 operand r
 
-  abbrev pub legOf : Leg
-  legOf = legBy (quick_of opcode)
+  abbrev pub leg_of : Leg
+  leg_of = leg_by (quick_of opcode)
 
   -- the memory after it
-  abbrev pub memBy : Quick → List ℕ
-  memBy Slow = m
-  memBy (Read mode k g) = m
-  memBy (Store mode o) =
+  abbrev pub mem_by : Quick → List ℕ
+  mem_by Slow = m
+  mem_by (Read mode k g) = m
+  mem_by (Store mode o) =
       let w : Bool = wide_source o r.flags.memsel r.flags.indexsel in
       pick (eqb (spot_of mode w).cycles 0) m (placed w (spot_of mode w).place (source_of o (regs_of r) r.pbr r.dbr) m)
-  memBy (Do k) = m
-  memBy (If k want) = m
-  memBy Jump = m
+  mem_by (Do k) = m
+  mem_by (If k want) = m
+  mem_by Jump = m
 
   abbrev pub mem_of : List ℕ
-  mem_of = memBy (quick_of opcode)
+  mem_of = mem_by (quick_of opcode)
 
 -- the record after a leg
 abbrev pub arrived : (ir : ℕ) → Leg → Record
@@ -134,7 +134,7 @@ abbrev pub strode_by : Record → (op : ℕ) → Leg → Stretch
 strode_by r op l = pick (eqb l.cycles 0) (stretch 0 r) (stretch l.cycles (arrived op l))
 
 unfoldable pub stride_of : Record → List ℕ → Stretch
-stride_of r m = pick (whole m) (strode_by r (opcode r m) (legOf r m)) (stretch 0 r)
+stride_of r m = pick (whole m) (strode_by r (opcode r m) (leg_of r m)) (stretch 0 r)
 
 unfoldable pub stride_mem : Record → List ℕ → List ℕ
 stride_mem r m = pick (whole m) (mem_of r m) m

@@ -6,7 +6,7 @@ ghost use Rattle.cpu.specs.Record.{regs_of, same};
 ghost use Rattle.cycles.specs.Cycles.{unaligned};
 ghost use Rattle.quick.specs.Quick.{goes};
 ghost use Rattle.quick.specs.declared.types.Quick.TheVariants.{Read, Store, If, Jump};
-ghost use Rattle.stride.specs.Strides.{fresh, cleared_of, spot, leg, kept, placed, opcode, spot_of, legBy, memBy, legOf, mem_of, arrived, stretch, strode_by, stride_of, stride_mem};
+ghost use Rattle.stride.specs.Strides.{fresh, cleared_of, spot, leg, kept, placed, opcode, spot_of, leg_by, mem_by, leg_of, mem_of, arrived, stretch, strode_by, stride_of, stride_mem};
 
 use crate::types::{Leg, Spot, Stretch};
 use alu::types::Alu;
@@ -116,7 +116,7 @@ fn spot_of(mode: Mode, wide: bool, r: Record, mem: &[u8]) -> Spot
 
 fn read(mode: Mode, k: Alu, g: Reg, r: Record, mem: &[u8]) -> Leg
     requires { length mem.now ≡ 65536 }
-    ensures { result ≡ legBy r mem.now (Read mode k g) }
+    ensures { result ≡ leg_by r mem.now (Read mode k g) }
 {
     let f = r.flags;
     let wide = is_wide(g, f.memsel, f.indexsel);
@@ -160,7 +160,7 @@ fn poke_in(cycles: u8, wide: bool, p: u16, v: u16, mem: &mut [u8])
 
 fn store(mode: Mode, k: Source, r: Record, mem: &mut [u8]) -> Leg
     requires { length mem.old ≡ 65536 }
-    ensures { (result ≡ legBy r mem.old (Store mode k)) × (mem.new ≡ memBy r mem.old (Store mode k)) }
+    ensures { (result ≡ leg_by r mem.old (Store mode k)) × (mem.new ≡ mem_by r mem.old (Store mode k)) }
 {
     let f = r.flags;
     let wide = is_wide_source(k, f.memsel, f.indexsel);
@@ -227,7 +227,7 @@ fn is_taken(k: Test, want: bool, f: Flags) -> bool
 
 fn branch(k: Test, want: bool, r: Record, mem: &[u8]) -> Leg
     requires { length mem.now ≡ 65536 }
-    ensures { result ≡ legBy r mem.now (If k want) }
+    ensures { result ≡ leg_by r mem.now (If k want) }
 {
     let f = r.flags;
     let past = up(up(r.pc));
@@ -239,14 +239,14 @@ fn branch(k: Test, want: bool, r: Record, mem: &[u8]) -> Leg
 
 fn jump(r: Record, mem: &[u8]) -> Leg
     requires { length mem.now ≡ 65536 }
-    ensures { result ≡ legBy r mem.now Jump }
+    ensures { result ≡ leg_by r mem.now Jump }
 {
     kept(3, peek_word(mem, up(r.pc)), r)
 }
 
 fn leg_of(q: Quick, r: Record, mem: &mut [u8]) -> Leg
     requires { length mem.old ≡ 65536 }
-    ensures { (result ≡ legBy r mem.old q) × (mem.new ≡ memBy r mem.old q) }
+    ensures { (result ≡ leg_by r mem.old q) × (mem.new ≡ mem_by r mem.old q) }
 {
     match q {
         Quick::Slow => kept(0, r.pc, r),
@@ -287,7 +287,7 @@ fn word_inside(pc: u16)
 // An instruction of a memory that is whole.
 fn stride_in(r: Record, mem: &mut [u8]) -> Stretch
     requires { length mem.old ≡ 65536 }
-    ensures { (result ≡ strode_by r (opcode r mem.old) (legOf r mem.old)) × (mem.new ≡ mem_of r mem.old) }
+    ensures { (result ≡ strode_by r (opcode r mem.old) (leg_of r mem.old)) × (mem.new ≡ mem_of r mem.old) }
 {
     let op = peek(mem, r.pc);
     let l = leg_of(quick(op), r, mem);

@@ -3,6 +3,7 @@ use lines::form::read;
 use lines::tally::{agreed, differed, lines, next, spoiled};
 use lines::text::{byte_of, is_at, past};
 use lines::types::{Fault, Line, Places, Tally};
+use std::io::IsTerminal;
 use std::num::wrapping_add_u64;
 use verdict::judge::{judge, progress};
 use verdict::report::{malformed, opcode_total, total};
@@ -21,10 +22,10 @@ fn count_of(counts: &[u64; 512], i: usize) -> u64 {
     if i < 512 { counts[i] } else { 0 }
 }
 
-fn take_case(t: Tally, text: &[u8], p: Places, counts: &mut [u64; 512]) -> Tally {
+fn take_case(rt: &impl Print, t: Tally, text: &[u8], p: Places, counts: &mut [u64; 512]) -> Tally {
     let opcode = byte_of(text, 0) as usize;
     count(counts, opcode);
-    if judge(t, text, p) {
+    if judge(rt, t, text, p) {
         agreed(t)
     } else {
         count(counts, past(DIFFERING, opcode));
@@ -32,13 +33,19 @@ fn take_case(t: Tally, text: &[u8], p: Places, counts: &mut [u64; 512]) -> Tally
     }
 }
 
-fn take_malformed(t: Tally, f: Fault) -> Tally {
-    malformed(t.number, f);
+fn take_malformed(rt: &impl Print, t: Tally, f: Fault) -> Tally {
+    malformed(rt, t.number, f);
     spoiled(t)
 }
 
 // A line without its end. Comments and empty lines are passed over.
-fn take_line(t: Tally, text: &[u8], counts: &mut [u64; 512]) -> Tally {
+fn take_line(
+    rt: &impl Print,
+    err: &(impl Print + IsTerminal),
+    t: Tally,
+    text: &[u8],
+    counts: &mut [u64; 512],
+) -> Tally {
     if text.len() == 0 {
         return t;
     }
@@ -47,20 +54,26 @@ fn take_line(t: Tally, text: &[u8], counts: &mut [u64; 512]) -> Tally {
     }
     let line = read(text, 1023);
     let done = match line {
-        Line::Case(p) => take_case(t, text, p, counts),
-        Line::Malformed(f) => take_malformed(t, f),
+        Line::Case(p) => take_case(rt, t, text, p, counts),
+        Line::Malformed(f) => take_malformed(rt, t, f),
     };
-    progress(lines(done));
+    progress(err, lines(done));
     done
 }
 
 // The line that has come, which stands in `room`.
-fn end_line(t: Tally, room: &[u8], counts: &mut [u64; 512]) -> Tally {
+fn end_line(
+    rt: &impl Print,
+    err: &(impl Print + IsTerminal),
+    t: Tally,
+    room: &[u8],
+    counts: &mut [u64; 512],
+) -> Tally {
     let size = t.size;
     if size > room.len() {
         return t;
     }
-    next(take_line(t, &room[0..size], counts))
+    next(take_line(rt, err, t, &room[0..size], counts))
 }
 
 // One byte more of a line. `room` has one byte more than a line may have: one that fills it is too long, and what follows is dropped.
@@ -76,35 +89,56 @@ fn keep(t: Tally, room: &mut [u8], b: u8) -> Tally {
     }
 }
 
-fn take_byte(t: Tally, b: u8, room: &mut [u8], counts: &mut [u64; 512]) -> Tally {
+fn take_byte(
+    rt: &impl Print,
+    err: &(impl Print + IsTerminal),
+    t: Tally,
+    b: u8,
+    room: &mut [u8],
+    counts: &mut [u64; 512],
+) -> Tally {
     if b == b'\n' {
-        end_line(t, room, counts)
+        end_line(rt, err, t, room, counts)
     } else {
         keep(t, room, b)
     }
 }
 
-pub fn take_bytes(from: Tally, bytes: &[u8], room: &mut [u8], counts: &mut [u64; 512]) -> Tally {
+pub fn take_bytes(
+    rt: &impl Print,
+    err: &(impl Print + IsTerminal),
+    from: Tally,
+    bytes: &[u8],
+    room: &mut [u8],
+    counts: &mut [u64; 512],
+) -> Tally {
     let mut t = from;
     let mut i: usize = 0;
     while i < bytes.len() {
-        t = take_byte(t, bytes[i], room, counts);
+        t = take_byte(rt, err, t, bytes[i], room, counts);
         i += 1;
     }
     t
 }
 
 // The file's end: a last line without a line end counts.
-pub fn finish(t: Tally, room: &[u8], counts: &mut [u64; 512]) {
-    let done = end_line(t, room, counts);
+pub fn finish(
+    rt: &impl Print,
+    err: &(impl Print + IsTerminal),
+    t: Tally,
+    room: &[u8],
+    counts: &mut [u64; 512],
+) {
+    let done = end_line(rt, err, t, room, counts);
     let mut opcode: usize = 0;
     while opcode < 256 {
         opcode_total(
+            rt,
             opcode as u8,
             count_of(counts, opcode),
             count_of(counts, past(DIFFERING, opcode)),
         );
         opcode += 1;
     }
-    total(lines(done), done.agree, done.differ, done.bad);
+    total(rt, lines(done), done.agree, done.differ, done.bad);
 }

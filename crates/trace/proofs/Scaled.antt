@@ -42,9 +42,9 @@ module _ (n a d₃ d₂ d₁ d₀ : ℕ) (e : n ≡ whole a d₃ d₂ d₁ d₀)
   digit₀ : n * 429497 % 4294967296 * 5 % 2147483648 * 5 % 1073741824 * 5 % 536870912 * 5 / 268435456 ≡ d₀
   digit₀ = rw part₃ (omega arith)
 
-  four-digits : four_of (n * 429497 % 4294967296) ≡ (48 + d₃) ∷ (48 + d₂) ∷ (48 + d₁) ∷ (48 + d₀) ∷ []
+  four_digits : four_of (n * 429497 % 4294967296) ≡ (48 + d₃) ∷ (48 + d₂) ∷ (48 + d₁) ∷ (48 + d₀) ∷ []
   unfolding four_of
-  four-digits = rw (digit₃, digit₂, digit₁, digit₀)
+  four_digits = rw (digit₃, digit₂, digit₁, digit₀)
 
 -- ---- what stands before the four digits
 
@@ -113,7 +113,7 @@ pub decimal_scaled : (n : ℕ) → 1000 ≤ n → n < 1000000 → decimal n ≡ 
 decimal_scaled n h k =
     let e : n ≡ whole (fourth n) (n / 10 / 10 / 10 % 10) (n / 10 / 10 % 10) (n / 10 % 10) (n % 10) = omega arith in
     let f = high n _ _ _ _ _ e (omega arith) (omega arith) (omega arith) (omega arith) (omega arith) in
-    let g = four-digits n _ _ _ _ _ e (omega arith) (omega arith) (omega arith) (omega arith) (omega arith) in
+    let g = four_digits n _ _ _ _ _ e (omega arith) (omega arith) (omega arith) (omega arith) (omega arith) in
     rw (f, g) (tail_last n h k)
 
 pub scaled_front : (n : ℕ) → n < 1000000 → n * 429497 / 4294967296 < 100

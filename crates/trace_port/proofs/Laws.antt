@@ -20,27 +20,27 @@ use Rattle.traced.proofs.Laws.{piece_short}
 use Rattle.trace_port.specs.Port.{trace_bytes, trace_number, unfit_text, spelt_to}
 
 module _ (b m t : List ℕ) (before n : ℕ) (u : Unpacked) (e : u ≡ unpacked b) where
-  pub trace-bad : u ≡ Bad → trace_bytes b m t before n ≡ record { answer = trace_number (unfit_text (length m) (length t) before n) 0 0; bytes = b; mem = m; text = t }
+  pub trace_bad : u ≡ Bad → trace_bytes b m t before n ≡ record { answer = trace_number (unfit_text (length m) (length t) before n) 0 0; bytes = b; mem = m; text = t }
   unfolding trace_bytes
-  trace-bad h = rw (← e, h)
+  trace_bad h = rw (← e, h)
 
-  pub trace-good : (r : Record) → u ≡ Good r → trace_bytes b m t before n ≡ spelt_to (whole_piece before n r m t)
+  pub trace_good : (r : Record) → u ≡ Good r → trace_bytes b m t before n ≡ spelt_to (whole_piece before n r m t)
   unfolding trace_bytes
-  trace-good r h = rw (← e, h)
+  trace_good r h = rw (← e, h)
 
 -- why a record that isn't a packed one isn't run
 module _ (l t before n : ℕ) where
-  pub text-1 : (l ≡ size → ⊥) → unfit_text l t before n ≡ 1
-  text-1 h = simp (ne_eqb _ _ h)
+  pub text_1 : (l ≡ size → ⊥) → unfit_text l t before n ≡ 1
+  text_1 h = simp (ne_eqb _ _ h)
 
-  pub text-2 : l ≡ size → most < before + n → unfit_text l t before n ≡ 2
-  text-2 h k = simp (eq-eqb _ _ h, lt-leb _ _ k)
+  pub text_2 : l ≡ size → most < before + n → unfit_text l t before n ≡ 2
+  text_2 h k = simp (eq-eqb _ _ h, lt-leb _ _ k)
 
-  pub text-3 : l ≡ size → before + n ≤ most → t < room_of before n → unfit_text l t before n ≡ 3
-  text-3 h k r = simp (eq-eqb _ _ h, le-leb _ _ k, lt-leb _ _ r)
+  pub text_3 : l ≡ size → before + n ≤ most → t < room_of before n → unfit_text l t before n ≡ 3
+  text_3 h k r = simp (eq-eqb _ _ h, le-leb _ _ k, lt-leb _ _ r)
 
-  pub text-4 : l ≡ size → before + n ≤ most → room_of before n ≤ t → unfit_text l t before n ≡ 4
-  text-4 h k r = simp (eq-eqb _ _ h, le-leb _ _ k, le-leb _ _ r)
+  pub text_4 : l ≡ size → before + n ≤ most → room_of before n ≤ t → unfit_text l t before n ≡ 4
+  text_4 h k r = simp (eq-eqb _ _ h, le-leb _ _ k, le-leb _ _ r)
 
 -- cycles and bytes of text fit their fields
 abbrev Fits : Written → Type 0

@@ -23,7 +23,7 @@ use Rattle.trace.specs.Text.{digits_of, decimal, hex_digit, hex2, hex6, line_tex
 use Rattle.run.specs.Runs.{End, ends, more, run_of, size}
 use Rattle.run.proofs.Laws.{run_done, run_none}
 use Rattle.traced.specs.Traces.{head, piece_text, room_of, untouched, text_of, piece_of, whole_piece, traced_as, Tells}
-use Rattle.traced.proofs.Laws.{refused_2, refused-3, accepted}
+use Rattle.traced.proofs.Laws.{refused_2, refused_3, accepted}
 
 -- a memory of 65,536 bytes with CLC and ADC #01 at 8000, whatever else is in it
 pub record Program01 (m : List ℕ) : Type 0 where
@@ -56,30 +56,30 @@ holding ir r = record {
 }
 
 module _ (m : List ℕ) (h : Program01 m) where
-  cycle-1 : cycle_of (native8 []) m ≡ Done (read Opcode 0x8000 0x18) (holding 0x18 (native8 (PC is 0x8001 ∷ [])))
+  cycle_1 : cycle_of (native8 []) m ≡ Done (read Opcode 0x8000 0x18) (holding 0x18 (native8 (PC is 0x8001 ∷ [])))
   unfolding cycle_of micro_of decode_of opcodes one_bytes well_formed inc at
-  cycle-1 = simp (h.bank, h.at0)
+  cycle_1 = simp (h.bank, h.at0)
 
-  cycle-2 : cycle_of (holding 0x18 (native8 (PC is 0x8001 ∷ []))) m ≡ Done (read Invalid 0x8001 0x69) (native8 (PC is 0x8001 ∷ []))
+  cycle_2 : cycle_of (holding 0x18 (native8 (PC is 0x8001 ∷ []))) m ≡ Done (read Invalid 0x8001 0x69) (native8 (PC is 0x8001 ∷ []))
   unfolding cycle_of micro_of decode_of opcodes one_bytes well_formed ended operates index page_one inc at
-  cycle-2 = simp (h.bank, h.at1)
+  cycle_2 = simp (h.bank, h.at1)
 
-  cycle-3 : cycle_of (native8 (PC is 0x8001 ∷ [])) m ≡ Done (read Opcode 0x8001 0x69) (holding 0x69 (native8 (PC is 0x8002 ∷ [])))
+  cycle_3 : cycle_of (native8 (PC is 0x8001 ∷ [])) m ≡ Done (read Opcode 0x8001 0x69) (holding 0x69 (native8 (PC is 0x8002 ∷ [])))
   unfolding cycle_of micro_of decode_of opcodes one_bytes well_formed inc at
-  cycle-3 = simp (h.bank, h.at1)
+  cycle_3 = simp (h.bank, h.at1)
 
-  cycle-4 : cycle_of (holding 0x69 (native8 (PC is 0x8002 ∷ []))) m ≡ Done (read Program 0x8002 0x01) (native8 (PC is 0x8003 ∷ A is 1 ∷ []))
+  cycle_4 : cycle_of (holding 0x69 (native8 (PC is 0x8002 ∷ []))) m ≡ Done (read Program 0x8002 0x01) (native8 (PC is 0x8003 ∷ A is 1 ∷ []))
   unfolding cycle_of micro_of decode_of opcodes one_bytes well_formed ended operates nz summed adc_byte adc_binary adc_of word low_set index page_one inc at
-  cycle-4 = simp (h.bank, h.at2)
+  cycle_4 = simp (h.bank, h.at2)
 
   -- the run without its text
-  pub four-cycles : run_of 4 (native8 []) m
+  pub four_cycles : run_of 4 (native8 []) m
       ≡
       more (read Opcode 0x8000 0x18)
       (more (read Invalid 0x8001 0x69)
       (more (read Opcode 0x8001 0x69) (more (read Program 0x8002 0x01) (ends 0 (native8 (PC is 0x8003 ∷ A is 1 ∷ [])) m))))
-  four-cycles =
-      rw (run_done 3 _ _ m _ cycle-1, run_done 2 _ _ m _ cycle-2, run_done 1 _ _ m _ cycle-3, run_done 0 _ _ m _ cycle-4, run_none)
+  four_cycles =
+      rw (run_done 3 _ _ m _ cycle_1, run_done 2 _ _ m _ cycle_2, run_done 1 _ _ m _ cycle_3, run_done 0 _ _ m _ cycle_4, run_none)
 
 -- bus 1; 1 O R 008000 18; 2 I R 008001 69; 3 O R 008001 69; 4 P R 008002 01
 abbrev pub text01 : List ℕ
@@ -100,7 +100,7 @@ trace_figure m t h k =
     rw (accepted 0 4 (native8 []) m t h.bank refl k)
     (subst
     (λ (e : End). Tells (text_of 0 e t) (traced_as 0 4 70 (native8 (PC is 0x8003 ∷ A is 1 ∷ []))) m (text01 ++ drop 70 t))
-    (sym (four-cycles m h))
+    (sym (four_cycles m h))
     (record { answer = refl; mem = refl; text = refl }))
 
 -- budget 4: room for 94 bytes is asked for, for 88 in a piece that comes later
@@ -111,7 +111,7 @@ room_figure = (refl, refl)
 -- whatever the record: 93 bytes are refused with 3; a budget of 1,000,001 with 2, and a million less so many as were done is the most
 pub short_figure : (r : Record) (m t : List ℕ) → length m ≡ size → length t ≡ 93 → whole_piece 0 4 r m t ≡ untouched 3 r m t
 unfolding head
-short_figure r m t h k = refused-3 0 4 r m t h refl (omega (arith, k))
+short_figure r m t h k = refused_3 0 4 r m t h refl (omega (arith, k))
 
 pub budget_figure : (r : Record) (m t : List ℕ) → length m ≡ size
     → (whole_piece 0 1000001 r m t ≡ untouched 2 r m t) × (whole_piece 999999 2 r m t ≡ untouched 2 r m t)

@@ -89,9 +89,9 @@ module _ (before b : ℕ) (r : Record) (m t : List ℕ) where
   unfolding whole_piece
   refused_2 h k = simp (eq-eqb _ _ h, k)
 
-  pub refused-3 : length m ≡ size → leb (before + b) most ≡ true → length t < room_of before b → whole_piece before b r m t ≡ untouched 3 r m t
+  pub refused_3 : length m ≡ size → leb (before + b) most ≡ true → length t < room_of before b → whole_piece before b r m t ≡ untouched 3 r m t
   unfolding whole_piece
-  refused-3 h k l = simp (eq-eqb _ _ h, k, lt-leb _ _ l)
+  refused_3 h k l = simp (eq-eqb _ _ h, k, lt-leb _ _ l)
 
   pub accepted : length m ≡ size → leb (before + b) most ≡ true → room_of before b ≤ length t → whole_piece before b r m t ≡ piece_of before b r m t
   unfolding whole_piece

@@ -78,17 +78,17 @@ module _ (b before : ℕ) (m₀ t₀ : List ℕ) (p₀ : ℕ) (r₀ : Record) (m
         text = w.text;
       }
 
-  pub going-stop : (m' : List ℕ) (k : Refusal) (c : Turn) → d < b → c ≡ cycle_of r m → m' ≡ store_of c m → c ≡ Stop k → Listed (run_of b r₀ m₀) (before + 1) p₀ t₀ (told_as (number_of k) d p r) m' t
-  going-stop m' k c h e f g = listed (number_of k) m' (next_stop b d r m m' k c h e f g)
+  pub going_stop : (m' : List ℕ) (k : Refusal) (c : Turn) → d < b → c ≡ cycle_of r m → m' ≡ store_of c m → c ≡ Stop k → Listed (run_of b r₀ m₀) (before + 1) p₀ t₀ (told_as (number_of k) d p r) m' t
+  going_stop m' k c h e f g = listed (number_of k) m' (next_stop b d r m m' k c h e f g)
 
   pub going_end : b ≤ d → Listed (run_of b r₀ m₀) (before + 1) p₀ t₀ (told_as 0 d p r) m t
   going_end h = listed 0 m (next_none b d r m h)
 
   -- a stretch on, whose lines were drawn
-  pub going-ahead : (gone : ℕ) (w : Walk) (m' t' : List ℕ) → d < b → before + b ≤ most
+  pub going_ahead : (gone : ℕ) (w : Walk) (m' t' : List ℕ) → d < b → before + b ≤ most
       → Driven gone r m t (before + d + 1) p w m' t' × (Passes w.cycles r m w.after m' × (well_formed w.after ≡ well_formed r) × (w.cycles ≤ b - d - 1))
       → Going b before m₀ t₀ p₀ r₀ m' t' w.place w.after (d + w.cycles)
-  going-ahead g w m' t' o q y =
+  going_ahead g w m' t' o q y =
       let x : Walked r m t (before + d + 1) p w m' t' = walked_by r m t (before + d + 1) p w m' t' g y.0 y.1.0 (y.1.1 ∙ i.well) in
       let h : w.cycles < b - d = omega (arith, o, y.1.2) in
       let n : ℕ = w.cycles in

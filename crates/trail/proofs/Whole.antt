@@ -32,5 +32,5 @@ module _ (p before b : ℕ) (r : Record) (m t : List ℕ) where
     fit : roomy p before b r m t ≡ true
     fit = rw (eq-eqb _ _ whole, le-leb _ _ few, le-leb _ _ room, well)
 
-    pub run-told : (o : Told) (m' t' : List ℕ) → Listed (trail_of p before b r m t) (before + 1) p t o m' t' → Listed (run_of b r m) (before + 1) p t o m' t'
-    run-told o m' t' = subst (λ (v : Bool). Listed (pick v (run_of b r m) (ends 0 r m)) (before + 1) p t o m' t' → Listed (run_of b r m) (before + 1) p t o m' t') (sym fit) (λ x. x)
+    pub run_told : (o : Told) (m' t' : List ℕ) → Listed (trail_of p before b r m t) (before + 1) p t o m' t' → Listed (run_of b r m) (before + 1) p t o m' t'
+    run_told o m' t' = subst (λ (v : Bool). Listed (pick v (run_of b r m) (ends 0 r m)) (before + 1) p t o m' t' → Listed (run_of b r m) (before + 1) p t o m' t') (sym fit) (λ x. x)

@@ -1,5 +1,6 @@
 // Numbers of 8, 16 and 24 bits. The crate's `ByteRef`, which borrows half a word, is arithmetic on the word here.
 #![tactic(auto)]
+
 ghost use Rattle.std.specs.Prelude.{◌≡◌, ◌≤◌, ◌&&◌, ◌||◌};
 ghost use Rattle.words.specs.Words.{pick, implied, bit, low_of, high_of, word, low_set, swapped, inc, dec, sum16, signed, displaced, at, sum24, same_page, page_one, index};
 

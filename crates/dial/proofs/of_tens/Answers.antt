@@ -3,7 +3,7 @@ use mathlib.Core.Path.{sym, ◌∙◌}
 use native.Mathlib.Omega.{arith}
 use native.Mathlib.Nat.{zero-add}
 use Rattle.dial.specs.Dial.{front_of, of_tens}
-use Rattle.dial.proofs.Packing.{before, before_none}
+use Rattle.dial.proofs.Packing.{before_none}
 use Rattle.dial.proofs.Front.{front_none, front_longer, front_short, front_small, front_step, front_holds}
 use Rattle.dial.proofs.of_tens.Goals as goal
 

@@ -1,6 +1,5 @@
-use Prim.Native.Nat.{◌-◌}
 use native.Mathlib.Omega.{arith}
-use lib.ListN.{length, length-set}
+use lib.ListN.{length-set}
 use Rattle.trace.proofs.Laws.{wrote_next}
 use Rattle.trace.proofs.put_bytes.Goals as goal
 

@@ -1,4 +1,4 @@
-use Rattle.std.proofs.Common.{◌≡◌, ◌-◌}
+use Rattle.std.proofs.Common.{◌≡◌}
 use Rattle.lines.specs.Form.{run_end}
 use Rattle.lines.proofs.form.run_end.Given as goal
 

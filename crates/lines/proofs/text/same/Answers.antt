@@ -1,4 +1,4 @@
-use Rattle.std.proofs.Common.{◌-◌, refl, ◌∙◌}
+use Rattle.std.proofs.Common.{refl, ◌∙◌}
 use Rattle.lines.specs.Text.{same_at}
 use Rattle.lines.proofs.Laws.{same_more, same_not, same_all}
 use Rattle.lines.proofs.text.same.Goals as goal

@@ -1,7 +1,5 @@
-use Prim.Native.Nat.{◌-◌}
 use native.Mathlib.Omega.{arith}
-use lib.ListN.{length, length-set}
-use lib.Seq.{sets}
+use lib.ListN.{length-set}
 use Rattle.packed.proofs.Laws.{sets_next}
 use Rattle.packed.proofs.bytes.put.Goals as goal
 

@@ -1,14 +1,13 @@
-use Prim.Native.Nat.{◌-◌}
 use mathlib.Core.Path.{sym, ◌∙◌}
 use native.Mathlib.Omega.{arith}
-use Rattle.slip.proofs.Laws.{not-a-digit, too_large, next-digit, all_digits}
+use Rattle.slip.proofs.Laws.{not_a_digit, too_large, next_digit, all_digits}
 use Rattle.slip.proofs.number.number_from.Goals as goal
 
 pub returns-then-base-d : goal.returns-then-base-d
 returns-then-base-d c =
     sym
     (c.loop-i.invariant.2
-    ∙ not-a-digit c.args.text.now c.args.hex c.loop-i.n c.loop-i.i c.value-d.result c.value-d.ensures.value c.loop-i-test.true (omega arith))
+    ∙ not_a_digit c.args.text.now c.args.hex c.loop-i.n c.loop-i.i c.value-d.result c.value-d.ensures.value c.loop-i-test.true (omega arith))
 
 pub returns-then-n-gt4294967295 : goal.returns-then-n-gt4294967295
 returns-then-n-gt4294967295 c =
@@ -22,7 +21,7 @@ loop-i-preserved c = (
   omega arith,
   rw c.longer-n.ensures
       (c.loop-i.invariant.2
-      ∙ next-digit c.args.text.now c.args.hex c.loop-i.n c.loop-i.i c.value-d.result c.value-d.ensures.value c.loop-i-test.true (omega arith) (omega arith)),
+      ∙ next_digit c.args.text.now c.args.hex c.loop-i.n c.loop-i.i c.value-d.result c.value-d.ensures.value c.loop-i-test.true (omega arith) (omega arith)),
 )
 
 pub returns : goal.returns

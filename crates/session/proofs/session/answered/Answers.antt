@@ -1,0 +1,18 @@
+use Rattle.session.specs.Sessions.{answered_to}
+use Rattle.session.proofs.session.answered.Goals as goal
+
+pub returns-in_default : goal.returns-in_default
+unfolding answered_to
+returns-in_default c = simp (
+  c.number_of.ensures,
+  c.in_default.is,
+  ← c.answer-a.ensures,
+)
+
+pub returns : goal.returns
+unfolding answered_to
+returns c = simp (
+  c.count-cycles.ensures,
+  c.in-Next.is,
+  ← c.answer-a.ensures,
+)
