@@ -92,7 +92,7 @@ start='0000 0000 0000 01FF 0000 8000 00 00 30 0'
 none='0 00 00 0000 0000 00'
 
 # Where a source was touched since, the command looks first whether all is proved, and says so; here it has done that before the cases.
-for words in '' 'run' 'trace' 'step' "replay $work/none"; do
+for words in '' 'run' 'trace' 'step' "replay $work/nothing"; do
   "$root/glavorint" $words >"$work/out" 2>&1
 done
 

@@ -17,6 +17,13 @@ import sys
 
 NAME = r"[\w\-'·+]"
 DECLARED = re.compile(r"^\s*(?:(?:abbrev|unfoldable|pub|opaque)\s+)*([^\s:(){}]+)\s*:(?!:)")
+# Two lemmas had a definition's name in snake case before this: the file, the definition, the lemma, and where the lemma stands.
+BEFORE = [
+    ("crates/herdbook/proofs/Once.antt", "inOrder", "in_order", r"(?m)^in_order(?= :| )|(?<== )in_order(?= )"),
+    ("crates/run/proofs/Strides.antt", "branchRow", "branch_row", r"(?m)(?<=^  )branch_row(?= :| d )|(?<== )branch_row(?= d )"),
+]
+# A field of a record of the repository's own, which stands behind a dot.
+FIELDS = {"mid-bank"}
 MADE = ("Proof.antt", "Answers.antt", "Invariants.antt")
 
 
@@ -81,12 +88,11 @@ def new_names(names, of_specs):
 
 
 def main():
-    # one lemma had a definition's name in snake case before this
-    once = "crates/herdbook/proofs/Once.antt"
-    text = text_of(once)
-    if "inOrder" in text:
-        with open(once, "w", encoding="utf-8") as f:
-            f.write(re.sub(r"(?m)^in_order(?= :| )|(?<== )in_order(?= )", "in_order_lem", text))
+    for path, definition, lemma, there in BEFORE:
+        text = text_of(path)
+        if definition in text:
+            with open(path, "w", encoding="utf-8") as f:
+                f.write(re.sub(there, lemma + "_lem", text))
     names, of_specs = declared()
     new = new_names(names, of_specs)
     any_name = re.compile(rf"(?<!{NAME})(?:{'|'.join(re.escape(n) for n in sorted(names, key=len, reverse=True))})(?!{NAME})")
@@ -98,8 +104,9 @@ def main():
         def one(m):
             if m.group(0) in others:
                 return m.group(0)
-            before = re.search(r"([\w\-'·]+)\.$", part[: m.start()][-80:])
-            return m.group(0) if before and before.group(1) not in modules else new[m.group(0)]
+            before = re.search(r"([\w\-'·]+)\.\Z", part[: m.start()][-80:])
+            behind = before and before.group(1) not in modules and m.group(0) not in FIELDS
+            return m.group(0) if behind else new[m.group(0)]
 
         return any_name.sub(one, part)
 

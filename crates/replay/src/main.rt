@@ -2,6 +2,9 @@
 // One case a line; crates/lines has the format, crates/course what is compared.
 #![tactic(auto)]
 
+mod watched;
+
+use crate::watched::Watched;
 use gate::args::{get, path};
 use gate::reason::explain;
 use lines::types::Tally;
@@ -18,10 +21,13 @@ enum Reading {
     More(Tally),
     End(Tally),
     Failed(io::Error),
+    // whoever read the report has left
+    Left,
 }
 
 fn turn(
     rt: &HostRuntime,
+    out: &Watched<'_>,
     file: &mut impl Read,
     t: Tally,
     room: &mut [u8],
@@ -33,19 +39,24 @@ fn turn(
         Ok(n) => n,
         Err(why) => return Reading::Failed(why),
     };
-    Reading::More(take_bytes(rt, &rt.stderr(), t, &bytes[..n], room, counts))
+    let next = take_bytes(out, &rt.stderr(), t, &bytes[..n], room, counts);
+    if out.has_left() {
+        return Reading::Left;
+    }
+    Reading::More(next)
 }
 
 // Nothing says that a file ends, so the turns are at most a number that no run uses up.
 fn read_all(
     rt: &HostRuntime,
+    out: &Watched<'_>,
     file: &mut impl Read,
     room: &mut [u8],
     counts: &mut [u64; 512],
 ) -> Reading {
     let mut t = lines::tally::start();
     for _ in 0..u64::MAX {
-        let got = turn(rt, file, t, room, counts);
+        let got = turn(rt, out, file, t, room, counts);
         let Reading::More(next) = got else {
             return got;
         };
@@ -65,9 +76,10 @@ fn refuse(rt: &HostRuntime, what: &[u8], name: &[u8], why: io::Error) {
 fn replay(rt: &HostRuntime, file: &mut impl Read, name: &[u8]) {
     let mut room = [0u8; 1024];
     let mut counts = [0u64; 512];
-    let end = read_all(rt, file, &mut room, &mut counts);
+    let out = Watched::new(rt);
+    let end = read_all(rt, &out, file, &mut room, &mut counts);
     match end {
-        Reading::More(_) => (),
+        Reading::More(_) | Reading::Left => (),
         Reading::End(t) => finish(rt, &rt.stderr(), t, &room, &mut counts),
         Reading::Failed(why) => refuse(rt, b"cannot read ", name, why),
     }
