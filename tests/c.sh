@@ -2,7 +2,7 @@
 # The first trace in C, linked to the proved library, where a C compiler is at hand. library/build.sh makes the library.
 set -eu
 cd "$(dirname "$0")/.."
-for tool in cc nm; do
+for tool in cc ar nm; do
     command -v $tool >/dev/null || { echo "c: not run: there is no $tool"; exit 0; }
 done
 # A compiler may be there without what it links.

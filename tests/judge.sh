@@ -7,7 +7,7 @@ source=${W65C816:-}
 if [ -z "$source" ]; then
     for source in "${CARGO_HOME:-$HOME/.cargo}"/registry/src/*/w65c816-0.1.17/src; do :; done
 fi
-for tool in rustc cc nm; do
+for tool in rustc cc ar nm; do
     command -v $tool >/dev/null || { echo "judge: not run: there is no $tool"; exit 0; }
 done
 # A compiler may be there without what it links.

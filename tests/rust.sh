@@ -2,7 +2,7 @@
 # The Rust crate's tests and examples over the proved library, where cargo is at hand. library/build.sh makes the library.
 set -eu
 cd "$(dirname "$0")/.."
-for tool in cargo rustc cc nm; do
+for tool in cargo rustc cc ar nm; do
     command -v $tool >/dev/null || { echo "rust: not run: there is no $tool"; exit 0; }
 done
 cargo --version >/dev/null 2>&1 || { echo "rust: not run: cargo fails"; exit 0; }
