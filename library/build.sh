@@ -3,7 +3,7 @@
 # where they aren't yet. include/glavorint.h says what a caller has to know.
 set -eu
 cd "$(dirname "$0")/.."
-crates="cycle_c run_c trace_c session_c walk_c"
+crates="cycle_port_c run_port_c trace_port_c session_port_c walk_port_c"
 
 fail() {
     echo "library: not built: $1" >&2
