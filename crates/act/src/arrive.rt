@@ -27,13 +27,12 @@ fn moved_on(last: bool, pbr: u8) -> Way
 fn way(t: To, o: Operation, r: Record, b: u8) -> Way
     ensures { result ≡ way_of t o r b }
 {
-    let f = r.flags;
     match t {
         To::On => Way::On(r.pbr),
         To::End => Way::End(r.pbr),
         To::EndByte => Way::End(b),
         To::EndBank => Way::End(r.tempbank),
-        To::Taken => on_if(taken(cond_in(o), f), r.pbr),
+        To::Taken => on_if(taken(cond_in(o), r.flags), r.pbr),
         To::Crossed => on_if(!same_page(r.pc, target_of(r)), r.pbr),
         To::Moved => moved_on(is_last(r), r.pbr),
     }

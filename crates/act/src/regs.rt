@@ -30,15 +30,13 @@ fn pull(p: Part, o: Operation, r: Record, b: u8) -> Regs
 fn status(r: Record, b: u8) -> Regs
     ensures { result ≡ set_flags (set_byte r.flags b) (regs_of r) }
 {
-    let f = r.flags;
-    with_flags(f.set(b), regs(r))
+    with_flags(r.flags.set(b), regs(r))
 }
 
 fn sign(r: Record, b: u8) -> Regs
     ensures { result ≡ set_flags (set_nz r.flags b false) (regs_of r) }
 {
-    let f = r.flags;
-    with_flags(f.set_nz(b as u16, false), regs(r))
+    with_flags(r.flags.set_nz(b as u16, false), regs(r))
 }
 
 pub fn regs_after(c: Change, o: Operation, r: Record, b: u8) -> Regs

@@ -4,7 +4,7 @@
 ghost use Rattle.std.specs.Prelude.{◌≡◌, ◌<◌};
 ghost use Rattle.adder.specs.Adder.{plain, half, overflow, add_six, add_sixty, take_six, take_sixty, adc_binary, adc_decimal, sbc_decimal, adc_of, sbc_of};
 
-use words::{both, either, one_if};
+use words::{both, either, low, one_if};
 
 #[derive(Clone, Copy)]
 pub struct Sum {
@@ -40,14 +40,10 @@ fn add_six(half: bool, above: bool, s: u16) -> u16
     ensures value { result ≡ add_six half above s }
     ensures small { result < 518 }
 {
-    if half {
-        if above {
-            s / 16 * 16 + (s % 16 + 6) % 16
-        } else {
-            s + 6
-        }
-    } else {
-        if above { s + 6 } else { s }
+    match (half, above) {
+        (true, true) => s / 16 * 16 + (s % 16 + 6) % 16,
+        (false, false) => s,
+        _ => s + 6,
     }
 }
 
@@ -82,19 +78,20 @@ fn take_sixty(borrow: bool, s: u8) -> u8
 }
 
 // A byte of binary ADC.
+#[tactic(auto, unfolding(crate::specs::Adder::adc_binary))]
 pub fn adc_binary(a: u8, b: u8, c: bool) -> Sum
     ensures { result ≡ adc_binary a b c }
 {
     let s = binary_sum(a, b, c);
-    let v = overflows(a, b, s);
     Sum {
-        byte: (s % 256) as u8,
+        byte: low(s),
         carry: s > 255,
-        overflow: v,
+        overflow: overflows(a, b, s),
     }
 }
 
 // A byte of decimal ADC, for digits and for what is no digit.
+#[tactic(auto, unfolding(crate::specs::Adder::adc_decimal))]
 pub fn adc_bcd(a: u8, b: u8, c: bool) -> Sum
     ensures { result ≡ adc_decimal a b c }
 {
@@ -102,30 +99,29 @@ pub fn adc_bcd(a: u8, b: u8, c: bool) -> Sum
     let h = half_carry(a, b, c);
     let first = add_six(h, s % 16 > 9, s);
     let last = add_sixty(first);
-    let v = overflows(a, b, first);
     Sum {
-        byte: (last % 256) as u8,
+        byte: low(last),
         carry: last > 255,
-        overflow: v,
+        overflow: overflows(a, b, first),
     }
 }
 
 // A byte of decimal SBC, for digits and for what is no digit.
+#[tactic(auto, unfolding(crate::specs::Adder::sbc_decimal))]
 pub fn sbc_bcd(a: u8, b: u8, c: bool) -> Sum
     ensures { result ≡ sbc_decimal a b c }
 {
     let n = 255 - b;
     let s = adc_binary(a, n, c);
-    let low = take_six(half_carry(a, n, c), s.byte);
-    let byte = take_sixty(!s.carry, low);
+    let units = take_six(half_carry(a, n, c), s.byte);
     Sum {
-        byte: byte,
-        carry: s.carry,
-        overflow: s.overflow,
+        byte: take_sixty(!s.carry, units),
+        ..s
     }
 }
 
 // A byte of ADC.
+#[tactic(auto, unfolding(crate::specs::Adder::adc_of))]
 pub fn adc(decimal: bool, a: u8, b: u8, c: bool) -> Sum
     ensures { result ≡ adc_of decimal a b c }
 {
@@ -137,6 +133,7 @@ pub fn adc(decimal: bool, a: u8, b: u8, c: bool) -> Sum
 }
 
 // A byte of SBC.
+#[tactic(auto, unfolding(crate::specs::Adder::sbc_of))]
 pub fn sbc(decimal: bool, a: u8, b: u8, c: bool) -> Sum
     ensures { result ≡ sbc_of decimal a b c }
 {

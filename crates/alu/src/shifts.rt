@@ -4,7 +4,7 @@ ghost use Rattle.std.specs.Prelude.{◌≡◌};
 ghost use Rattle.alu.specs.Alu.{carried, with_carry, left_byte, right_byte, step_byte, shifted, carry_in, carry_out, from_top, both_bytes, one_byte, ending, shifted_at};
 
 use crate::ops::set_nz;
-use crate::types::{Byte, Shift, Word};
+use crate::types::{Byte, Ends, Shift, Word};
 use flags::Flags;
 use words::{high, join, low, one_if, with_low};
 
@@ -15,46 +15,47 @@ fn with_carry(c: bool, f: Flags) -> Flags
 }
 
 // A result, its carry, and N and Z after it.
-fn carried_byte(first: bool, top: bool, byte: u8, c: bool, f: Flags) -> Byte
-    ensures { result ≡ carried first top byte c f }
+fn carried_byte(e: Ends, byte: u8, c: bool, f: Flags) -> Byte
+    ensures { result ≡ carried e.first e.top byte c f }
 {
     Byte {
-        byte: byte,
-        flags: set_nz(first, top, byte, with_carry(c, f)),
+        byte,
+        flags: set_nz(e, byte, with_carry(c, f)),
     }
 }
 
-fn left(first: bool, top: bool, b: u8, f: Flags) -> Byte
-    ensures { result ≡ left_byte first top b f }
+#[tactic(auto, unfolding(crate::specs::Alu::left_byte))]
+fn left(e: Ends, b: u8, f: Flags) -> Byte
+    ensures { result ≡ left_byte e.first e.top b f }
 {
-    carried_byte(first, top, b % 128 * 2 + one_if(f.carry), b >= 128, f)
+    carried_byte(e, b % 128 * 2 + one_if(f.carry), b >= 128, f)
 }
 
-fn right(first: bool, top: bool, b: u8, f: Flags) -> Byte
-    ensures { result ≡ right_byte first top b f }
+#[tactic(auto, unfolding(crate::specs::Alu::right_byte))]
+fn right(e: Ends, b: u8, f: Flags) -> Byte
+    ensures { result ≡ right_byte e.first e.top b f }
 {
-    carried_byte(first, top, b / 2 + one_if(f.carry) * 128, b % 2 == 1, f)
+    carried_byte(e, b / 2 + one_if(f.carry) * 128, b % 2 == 1, f)
 }
 
 // A byte of a step: 0 is added, or FF, and the carry.
-fn step(by: u8, first: bool, top: bool, b: u8, f: Flags) -> Byte
-    ensures { result ≡ step_byte by first top b f }
+#[tactic(auto, unfolding(crate::specs::Alu::step_byte))]
+fn step(by: u8, e: Ends, b: u8, f: Flags) -> Byte
+    ensures { result ≡ step_byte by e.first e.top b f }
 {
     let s = adder::adc(false, b, by, f.carry);
-    carried_byte(first, top, s.byte, s.carry, f)
+    carried_byte(e, s.byte, s.carry, f)
 }
 
 // One byte of a shift or a step, with the carry as it comes and goes.
-fn shift_byte(k: Shift, first: bool, top: bool, b: u8, f: Flags) -> Byte
-    ensures { result ≡ shifted k first top b f }
+fn shift_byte(k: Shift, e: Ends, b: u8, f: Flags) -> Byte
+    ensures { result ≡ shifted k e.first e.top b f }
 {
     match k {
-        Shift::Asl => left(first, top, b, f),
-        Shift::Rol => left(first, top, b, f),
-        Shift::Lsr => right(first, top, b, f),
-        Shift::Ror => right(first, top, b, f),
-        Shift::Inc => step(0, first, top, b, f),
-        Shift::Dec => step(255, first, top, b, f),
+        Shift::Asl | Shift::Rol => left(e, b, f),
+        Shift::Lsr | Shift::Ror => right(e, b, f),
+        Shift::Inc => step(0, e, b, f),
+        Shift::Dec => step(255, e, b, f),
     }
 }
 
@@ -62,12 +63,9 @@ fn carry_in(k: Shift, c: bool) -> bool
     ensures { result ≡ carry_in k c }
 {
     match k {
-        Shift::Asl => false,
-        Shift::Rol => c,
-        Shift::Lsr => false,
-        Shift::Ror => c,
+        Shift::Rol | Shift::Ror => c,
         Shift::Inc => true,
-        Shift::Dec => false,
+        Shift::Asl | Shift::Lsr | Shift::Dec => false,
     }
 }
 
@@ -75,47 +73,33 @@ fn carry_out(k: Shift, c: bool, d: bool) -> bool
     ensures { result ≡ carry_out k c d }
 {
     match k {
-        Shift::Asl => d,
-        Shift::Rol => d,
-        Shift::Lsr => d,
-        Shift::Ror => d,
-        Shift::Inc => c,
-        Shift::Dec => c,
+        Shift::Inc | Shift::Dec => c,
+        _ => d,
     }
 }
 
 fn from_top(k: Shift) -> bool
     ensures { result ≡ from_top k }
 {
-    match k {
-        Shift::Asl => false,
-        Shift::Rol => false,
-        Shift::Lsr => true,
-        Shift::Ror => true,
-        Shift::Inc => false,
-        Shift::Dec => false,
-    }
+    matches!(k, Shift::Lsr | Shift::Ror)
 }
 
 fn both_bytes(k: Shift, v: u16, f: Flags) -> Word
     ensures { result ≡ both_bytes k (from_top k) v f }
 {
-    let top = from_top(k);
-    if top {
-        let h = shift_byte(k, true, true, high(v), f);
-        let l = shift_byte(k, false, false, low(v), h.flags);
-        let g = l.flags;
+    if from_top(k) {
+        let h = shift_byte(k, Ends::BOTH, high(v), f);
+        let l = shift_byte(k, Ends::NEITHER, low(v), h.flags);
         Word {
             word: join(l.byte, h.byte),
-            flags: g,
+            flags: l.flags,
         }
     } else {
-        let l = shift_byte(k, true, false, low(v), f);
-        let h = shift_byte(k, false, true, high(v), l.flags);
-        let g = h.flags;
+        let l = shift_byte(k, Ends::LOW, low(v), f);
+        let h = shift_byte(k, Ends::HIGH, high(v), l.flags);
         Word {
             word: join(l.byte, h.byte),
-            flags: g,
+            flags: h.flags,
         }
     }
 }
@@ -123,11 +107,10 @@ fn both_bytes(k: Shift, v: u16, f: Flags) -> Word
 fn one_byte(k: Shift, v: u16, f: Flags) -> Word
     ensures { result ≡ one_byte k v f }
 {
-    let l = shift_byte(k, true, true, low(v), f);
-    let g = l.flags;
+    let l = shift_byte(k, Ends::BOTH, low(v), f);
     Word {
         word: with_low(v, l.byte),
-        flags: g,
+        flags: l.flags,
     }
 }
 
@@ -136,8 +119,8 @@ fn ended(k: Shift, c: bool, t: Word) -> Word
 {
     let f = t.flags;
     Word {
-        word: t.word,
         flags: with_carry(carry_out(k, c, f.carry), f),
+        ..t
     }
 }
 

@@ -1,5 +1,5 @@
 // The meter's ROM, assembled by hand: at each opcode its address and mnemonic. docs/ROM.md has the same bytes and says what they are for.
-use packed::bytes::put;
+use dairy::yard::Memory;
 
 pub const START: u16 = 0x8000;
 
@@ -67,7 +67,6 @@ const ROM: [u8; 88] = [
     0xDB, // 8057 STP
 ];
 
-pub fn put_rom(mem: &mut [u8; 65536]) {
-    let rom = ROM;
-    put(mem, 0x8000, &rom);
+pub fn put_rom(mem: &mut Memory) {
+    mem[0x8000..0x8058].copy_from_slice(&ROM);
 }

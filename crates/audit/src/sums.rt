@@ -1,95 +1,104 @@
 // The sums, added again without the chip: pulses from the samples, litres from the log, each against what the ROM has.
-use crate::meter::{Flow, SAMPLES, count_flow};
-use dairy::entry::{Entry, entry_at, is_figures, place, total};
-use dairy::say::{Check, say, say_form, say_verdict};
-use dairy::yard::{value, word};
-use std::io;
-use std::num::wrapping_add_u64;
-use words::both;
+use crate::meter::{Flow, Samples, Tape};
+use dairy::entry::{Entry, PLACES, Round, Total};
+use dairy::page::verdict;
+use dairy::yard::{Memory, value};
+use std::{fmt, io};
 
-// What was added up to here, whether all of it agrees, and whether all of it could be written.
+// What was added up to here, and whether all of it agrees.
 #[derive(Clone, Copy)]
 pub struct Sums {
-    pub key: usize, // where the next delivery's samples begin
-    pub pulses: u64,
-    pub idle: u64,
+    pub samples: Samples,
     pub litres: u64,
     pub agrees: bool,
-    pub told: io::Result<()>,
 }
 
-fn none_yet() -> Sums {
-    Sums {
-        key: SAMPLES,
-        pulses: 0,
-        idle: 0,
+// A delivery's samples beside its entry, and the litres of the log up to here.
+#[derive(Clone, Copy)]
+struct Row {
+    round: Round,
+    at: u16,
+    flow: Flow,
+    entry: Entry,
+    sum: u64,
+}
+
+impl Row {
+    // Its pulses are the entry's litres, and the litres up to here the entry's total.
+    fn agrees(&self) -> bool {
+        let Row {
+            round,
+            flow,
+            entry,
+            sum,
+            ..
+        } = *self;
+        entry.farm == flow.farm
+            && entry.round == Some(round)
+            && entry.is_figures()
+            && value(entry.litres) == flow.samples.pulses
+            && entry.total.litres() == sum
+    }
+}
+
+impl fmt::Display for Row {
+    fn fmt<W: fmt::Write>(&self, f: &mut fmt::Formatter<W>) -> fmt::Result {
+        let Row { at, sum, .. } = *self;
+        let pulses = self.flow.samples.pulses;
+        let litres = value(self.entry.litres);
+        let held = self.entry.total.litres();
+        write!(
+            f,
+            "  {at:04X}  pulses {pulses:5} = log {litres:5}; so far {sum:5} = total {held:5}: "
+        )?;
+        f.write_str(verdict(self.agrees()))
+    }
+}
+
+fn add_deliveries(rt: &impl Print, mem: &Memory) -> io::Result<Sums> {
+    let mut s = Sums {
+        samples: Samples { pulses: 0, idle: 0 },
         litres: 0,
         agrees: true,
-        told: Ok(()),
+    };
+    for ((round, at), flow) in PLACES.into_iter().zip(Tape::of(mem)) {
+        let entry = Entry::at(mem, at);
+        let sum = s.litres.wrapping_add(value(entry.litres));
+        let row = Row {
+            round,
+            at,
+            flow,
+            entry,
+            sum,
+        };
+        rt.println(row)?;
+        s = Sums {
+            samples: s.samples.plus(flow.samples),
+            litres: sum,
+            agrees: s.agrees && row.agrees(),
+        };
     }
-}
-
-fn with_delivery(s: Sums, f: Flow, litres: u64, c: Check) -> Sums {
-    Sums {
-        key: f.next,
-        pulses: wrapping_add_u64(s.pulses, f.pulses),
-        idle: wrapping_add_u64(s.idle, f.idle),
-        litres: wrapping_add_u64(s.litres, litres),
-        agrees: both(s.agrees, c.agrees),
-        told: s.told.and(c.told),
-    }
-}
-
-fn is_as_counted(e: Entry, f: Flow, round: usize) -> bool {
-    let named = both(e.farm == f.farm, e.round as usize == round);
-    both(named, both(is_figures(e), value(e.litres) == f.pulses))
-}
-
-fn say_row(rt: &impl Print, values: &[u64], agrees: bool) -> Check {
-    let told = say_form(rt, b"  ^  pulses @ = log @; so far @ = total @", values);
-    say_verdict(rt, told, agrees)
-}
-
-// One delivery: its pulses are the entry's litres, and the litres up to here the entry's total.
-fn add_delivery(rt: &impl Print, mem: &[u8; 65536], i: usize, s: Sums) -> Sums {
-    let at = place(i);
-    let e = entry_at(mem, at);
-    let f = count_flow(mem, s.key);
-    let litres = value(e.litres);
-    let held = total(e.low, e.high);
-    let sum = wrapping_add_u64(s.litres, litres);
-    let agrees = both(is_as_counted(e, f, i / 3), sum == held);
-    let row = say_row(rt, &[at as u64, f.pulses, litres, sum, held], agrees);
-    with_delivery(s, f, litres, row)
-}
-
-fn add_deliveries(rt: &impl Print, mem: &[u8; 65536]) -> Sums {
-    let mut s = none_yet();
-    let mut i: usize = 0;
-    while i < 6 {
-        s = add_delivery(rt, mem, i, s);
-        i += 1;
-    }
-    s
-}
-
-fn say_day(rt: &impl Print, s: Sums, held: u64) -> Check {
-    let told = say_form(
-        rt,
-        b"  day   pulses # = log # = total #",
-        &[s.pulses, s.litres, held],
-    );
-    say_verdict(rt, told, both(s.pulses == s.litres, s.litres == held))
+    Ok(s)
 }
 
 // The whole day: all pulses, all litres of the log, and the total that the ROM holds in its direct page.
-pub fn add_day(rt: &impl Print, mem: &[u8; 65536]) -> Sums {
-    let title = say(rt, b"\nThe sums, added again without the chip\n");
-    let s = add_deliveries(rt, mem);
-    let day = say_day(rt, s, total(word(mem, 4), word(mem, 6)));
-    Sums {
-        agrees: both(s.agrees, day.agrees),
-        told: title.and(s.told).and(day.told),
+pub fn add_day(rt: &impl Print, mem: &Memory) -> io::Result<Sums> {
+    rt.println("\nThe sums, added again without the chip")?;
+    let s = add_deliveries(rt, mem)?;
+    let Sums {
+        samples,
+        litres,
+        agrees,
+    } = s;
+    let pulses = samples.pulses;
+    let held = Total::held(mem).litres();
+    let day = pulses == litres && litres == held;
+    println!(rt;
+        "  day   pulses {pulses} = log {litres} = total {held}: {}",
+        verdict(day)
+    )?;
+    Ok(Sums {
+        agrees: agrees && day,
         ..s
-    }
+    })
 }

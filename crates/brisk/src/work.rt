@@ -1,14 +1,16 @@
-// An operation at its width in one go, where `alu::ops::operate_at` goes from byte to byte.
+// An operation at its width in one go, where `alu::ops::operate_at` goes from byte to byte: a function that strides and single
+// cycles share isn't inlined in either (docs/SPEED.md).
 ghost use Rattle.std.specs.Prelude.{◌≡◌};
+ghost use Rattle.words.specs.Words.{pick};
+ghost use Rattle.adder.specs.Adder.{adc_of, sbc_of};
 ghost use Rattle.alu.specs.Alu.{operated_at};
 ghost use Rattle.alu.specs.declared.types.Alu.TheVariants.{Adc, Sbc};
-ghost use Rattle.brisk.specs.Whole.{placed, less, compared, tested};
+ghost use Rattle.brisk.specs.Whole.{placed, compared, tested};
 
-use adder::{adc, sbc};
+use adder::{Sum, adc, sbc};
 use alu::types::{Alu, Word};
-use cpu::registers::choose;
 use flags::Flags;
-use words::{both, high, join, low, with_low};
+use words::{both, choose, high, join, low, with_low};
 
 // A result in a register that held a, with its N and Z.
 pub fn place(wide: bool, a: u16, v: u16, f: Flags) -> Word
@@ -20,13 +22,24 @@ pub fn place(wide: bool, a: u16, v: u16, f: Flags) -> Word
     }
 }
 
-// ADC: decimal digits go from byte to byte, and binary sums with them.
-fn add(wide: bool, a: u16, n: u16, f: Flags) -> Word
-    ensures { result ≡ operated_at Adc wide a n f }
+// A byte's sum or, for SBC, its difference.
+fn sum(minus: bool, decimal: bool, a: u8, b: u8, c: bool) -> Sum
+    ensures { result ≡ pick minus (sbc_of decimal a b c) (adc_of decimal a b c) }
 {
-    let l = adc(f.decimal, low(a), low(n), f.carry);
+    if minus {
+        sbc(decimal, a, b, c)
+    } else {
+        adc(decimal, a, b, c)
+    }
+}
+
+// ADC and SBC: decimal digits go from byte to byte, and binary sums with them.
+fn add(minus: bool, wide: bool, a: u16, n: u16, f: Flags) -> Word
+    ensures { result ≡ operated_at (pick minus Sbc Adc) wide a n f }
+{
+    let l = sum(minus, f.decimal, low(a), low(n), f.carry);
     if wide {
-        let h = adc(f.decimal, high(a), high(n), l.carry);
+        let h = sum(minus, f.decimal, high(a), high(n), l.carry);
         let z = both(l.byte == 0, h.byte == 0);
         Word {
             word: join(l.byte, h.byte),
@@ -38,33 +51,6 @@ fn add(wide: bool, a: u16, n: u16, f: Flags) -> Word
             flags: f.set_nvzc(l.byte >= 128, l.overflow, l.byte == 0, l.carry),
         }
     }
-}
-
-// SBC, in the same way.
-fn subtract(wide: bool, a: u16, n: u16, f: Flags) -> Word
-    ensures { result ≡ operated_at Sbc wide a n f }
-{
-    let l = sbc(f.decimal, low(a), low(n), f.carry);
-    if wide {
-        let h = sbc(f.decimal, high(a), high(n), l.carry);
-        let z = both(l.byte == 0, h.byte == 0);
-        Word {
-            word: join(l.byte, h.byte),
-            flags: f.set_nvzc(h.byte >= 128, h.overflow, z, h.carry),
-        }
-    } else {
-        Word {
-            word: with_low(a, l.byte),
-            flags: f.set_nvzc(l.byte >= 128, l.overflow, l.byte == 0, l.carry),
-        }
-    }
-}
-
-// A difference that wraps.
-fn minus(x: u16, y: u16) -> u16
-    ensures { result ≡ less x y }
-{
-    std::num::wrapping_sub_u16(x, y)
 }
 
 // CMP: one difference.
@@ -73,7 +59,7 @@ fn compare(wide: bool, a: u16, b: u16, f: Flags) -> Word
 {
     let x = choose(wide, a, low(a) as u16);
     let y = choose(wide, b, low(b) as u16);
-    let g = f.set_nz(minus(x, y), wide);
+    let g = f.set_nz(x.wrapping_sub(y), wide);
     Word {
         word: a, // the register stays
         flags: g.set_nvzc(g.negative, g.overflow, g.zero, x >= y),
@@ -85,8 +71,8 @@ fn test(wide: bool, signs: bool, a: u16, b: u16, f: Flags) -> Word
     ensures { result ≡ tested wide signs a b f }
 {
     let t = choose(wide, b, (low(b) as u16) * 256);
-    let n = words::choose(signs, t >= 32768, f.negative);
-    let v = words::choose(signs, t / 16384 % 2 == 1, f.overflow);
+    let n = choose(signs, t >= 32768, f.negative);
+    let v = choose(signs, t / 16384 % 2 == 1, f.overflow);
     let g = f.set_nz(a & b, wide);
     Word {
         word: a,
@@ -99,8 +85,8 @@ pub fn work(k: Alu, wide: bool, a: u16, v: u16, f: Flags) -> Word
     ensures { result ≡ operated_at k wide a v f }
 {
     match k {
-        Alu::Adc => add(wide, a, v, f),
-        Alu::Sbc => subtract(wide, a, v, f),
+        Alu::Adc => add(false, wide, a, v, f),
+        Alu::Sbc => add(true, wide, a, v, f),
         Alu::Cmp => compare(wide, a, v, f),
         Alu::And => place(wide, a, a & v, f),
         Alu::Ora => place(wide, a, a | v, f),

@@ -18,8 +18,8 @@ pub fn read(kind: Kind, addr: u32) -> Request
 {
     Request {
         write: false,
-        kind: kind,
-        addr: addr,
+        kind,
+        addr,
         byte: 0,
     }
 }
@@ -30,8 +30,8 @@ fn write(addr: u32, byte: u8) -> Request
     Request {
         write: true,
         kind: Kind::Data,
-        addr: addr,
-        byte: byte,
+        addr,
+        byte,
     }
 }
 
@@ -66,8 +66,7 @@ fn table(r: Record) -> u16
 fn pull(k: Stack, r: Record) -> u32
     ensures { result ≡ at 0 (pulled k r.flags.emulation r.s) }
 {
-    let f = r.flags;
-    address(0, stack_pop(k, f.emulation, r.s))
+    address(0, stack_pop(k, r.flags.emulation, r.s))
 }
 
 // The value that is stored or pushed.

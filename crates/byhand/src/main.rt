@@ -1,142 +1,131 @@
 // A bench session by hand: `byhand A X Y S D PC PBR DBR P E` prints each request and reads the byte that answers it, docs/COMMAND.md.
 #![tactic(auto)]
 
-use gate::say::{complain, end, unread, untold};
+use gate::args::Arguments;
+use gate::say::{Complained, Status, complain, unread, untold};
+use pails::ran::Refusal;
 use session_port::sessions::{glavorint_session_answer, glavorint_session_request};
-use stall::request::{lay_front, refusal, writes};
+use stall::meaning::Said;
+use stall::request::{Request, lay_front};
 use stall::{bench, input};
 use std::io;
 use std::process::ExitCode;
 
-// Where a session stands after a turn.
-#[derive(Drop)]
-enum At {
-    // before a request to be printed, before one that stands, before one to be printed again after a refused byte
+// What a turn leaves: a request to be printed, the first one or the same after a refused byte, one that stands, or none when the bench has done.
+#[derive(Clone, Copy, Debug, PartialEq, Eq)]
+enum After {
     Next,
-    Stands,
     Refused,
-    // it has ended: by the bench, by a refusal of its record that is told already, by output or input that failed
+    Stands,
     Done,
-    Outright(ExitCode),
+}
+
+// How a session ends but by the bench.
+#[derive(Drop)]
+enum End {
+    // its record is refused, or its words are none, which is told already
+    Refused,
+    Complained,
+    // output or input that failed
     Untold(io::Error),
     Unread(io::Error),
 }
 
-fn after(told: io::Result<()>, next: At) -> At {
-    match told {
-        Ok(()) => next,
-        Err(why) => At::Untold(why),
+impl From<io::Error> for End {
+    fn from(why: io::Error) -> End {
+        End::Untold(why)
     }
 }
 
-fn answer(rt: &impl Print, session: &mut [u8; 40], b: u8) -> At {
-    let number = glavorint_session_answer(session, b);
-    if number == 0 {
-        return At::Next;
+impl From<Complained> for End {
+    fn from(_told: Complained) -> End {
+        End::Complained
     }
-    after(bench::unlisted(rt, number), At::Refused)
+}
+
+fn answer(rt: &impl Print, session: &mut [u8; 40], b: u8) -> io::Result<After> {
+    match Refusal::of(glavorint_session_answer(session, b)) {
+        None => Ok(After::Next),
+        Some(refusal) => {
+            bench::unlisted(rt, refusal)?;
+            Ok(After::Refused)
+        }
+    }
 }
 
 // One line of the bench to a request.
-fn hear(rt: &HostRuntime, session: &mut [u8; 40], write: bool) -> At {
-    let said = match input::next(&mut rt.stdin(), write) {
-        Ok(said) => said,
-        Err(why) => return At::Unread(why),
-    };
-    if said < 256 {
-        return answer(rt, session, said as u8);
-    }
-    match said {
-        257 => after(bench::show_words(rt, session), At::Next),
-        258 => At::Done,
-        _ => after(bench::puzzled(rt), At::Stands),
+fn hear(rt: &HostRuntime, session: &mut [u8; 40], write: bool) -> Result<After, End> {
+    match input::next(&mut rt.stdin(), write).map_err(End::Unread)? {
+        Said::Byte(b) => Ok(answer(rt, session, b)?),
+        Said::Record => {
+            bench::show_words(rt, session)?;
+            Ok(After::Next)
+        }
+        Said::Quit => Ok(After::Done),
+        Said::Other => {
+            bench::puzzled(rt)?;
+            Ok(After::Stands)
+        }
     }
 }
 
 // One request, printed where it doesn't stand already.
-fn turn(rt: &HostRuntime, session: &mut [u8; 40], stands: bool) -> At {
-    let asked = glavorint_session_request(session);
-    let number = refusal(asked);
-    if number != 0 {
-        return At::Outright(bench::refused(rt, &rt.stderr(), session, number));
+fn turn(rt: &HostRuntime, session: &mut [u8; 40], stands: bool) -> Result<After, End> {
+    let asked = Request(glavorint_session_request(session));
+    if let Some(refusal) = asked.refusal() {
+        bench::refused(rt, &rt.stderr(), session, refusal)?;
+        return Err(End::Refused);
     }
     if !stands {
-        if let Err(why) = bench::show(rt, session, asked) {
-            return At::Untold(why);
-        }
+        bench::show(rt, session, asked)?;
     }
-    hear(rt, session, writes(asked))
-}
-
-// Nothing more is asked.
-fn is_over(at: &At) -> bool {
-    match at {
-        At::Next | At::Stands | At::Refused => false,
-        _ => true,
-    }
-}
-
-fn is_standing(at: &At) -> bool {
-    match at {
-        At::Stands => true,
-        _ => false,
-    }
-}
-
-// 1 once a byte was refused.
-fn status_after(status: u8, at: &At) -> u8 {
-    match at {
-        At::Refused => 1,
-        _ => status,
-    }
-}
-
-fn leave(rt: &HostRuntime, session: &[u8; 40], at: At, status: u8) -> ExitCode {
-    let err = rt.stderr();
-    match at {
-        At::Outright(code) => code,
-        At::Untold(why) => untold(&err, why),
-        At::Unread(why) => unread(&err, why),
-        _ => bench::finish(rt, &err, session, status),
-    }
+    hear(rt, session, asked.writes())
 }
 
 // Nothing says that the input ends, so the turns are at most a number that no session uses up.
-fn sit(rt: &HostRuntime, session: &mut [u8; 40]) -> ExitCode {
-    let mut at = At::Next;
-    let mut status: u8 = 0;
+fn sit(rt: &HostRuntime, session: &mut [u8; 40]) -> Result<Status, End> {
+    let mut stands = false;
+    let mut status = Status::Done;
     for _ in 0..u64::MAX {
-        if is_over(&at) {
-            break;
+        let after = turn(rt, session, stands)?;
+        match after {
+            After::Done => break,
+            // once a byte was refused
+            After::Refused => status = Status::Refused,
+            After::Next | After::Stands => (),
         }
-        at = turn(rt, session, is_standing(&at));
-        status = status_after(status, &at);
+        stands = after == After::Stands;
     }
-    leave(rt, session, at, status)
+    bench::finish(rt, session)?;
+    Ok(status)
 }
 
 // Ten words or sixteen. A session begins with no cycle done.
-fn begin(rt: &HostRuntime, count: usize) -> ExitCode {
+fn begin(rt: &HostRuntime) -> Result<Status, End> {
+    let err = rt.stderr();
+    let args = Arguments::plain(rt, &err);
+    let words = match args.count {
+        11 => 10,
+        17 => 16,
+        _ => {
+            let usage =
+                "usage: step A X Y S D PC PBR DBR P E [HELD OPCODE CYCLE ADDRESS DATA BANK]";
+            return Err(complain(&err, usage).into());
+        }
+    };
     let mut rec = [0u8; 32];
-    if !gate::start::read(rt, &rt.stderr(), count, 1, usize::MAX, &mut rec) {
-        return end(2);
-    }
+    gate::start::read(&args, words, 1, &mut rec)?;
     let mut session = [0u8; 40];
     lay_front(&mut session, &rec);
     sit(rt, &mut session)
 }
 
 fn main(rt: HostRuntime) -> ExitCode {
-    let count = gate::args::count(&rt);
-    if count == 11 {
-        begin(&rt, 10)
-    } else if count == 17 {
-        begin(&rt, 16)
-    } else {
-        complain(
-            &rt.stderr(),
-            b"usage: step A X Y S D PC PBR DBR P E [HELD OPCODE CYCLE ADDRESS DATA BANK]\n",
-        );
-        end(2)
+    match begin(&rt) {
+        Ok(status) => status.into(),
+        Err(End::Refused) => Status::Refused.into(),
+        Err(End::Complained) => Complained.into(),
+        Err(End::Untold(why)) => untold(&rt.stderr(), why),
+        Err(End::Unread(why)) => unread(&rt.stderr(), why),
     }
 }

@@ -1,5 +1,6 @@
 -- A request's characters out of a trace's line, and one turn of a case's loop.
 use Prim.Native.Nat.{ℕ, zero, suc, ◌+◌, ◌/◌, ◌%◌}
+use Rattle.std.proofs.Common.{Result, Ok, Err}
 use mathlib.Core.Path.{◌≡◌, sym, ◌∙◌}
 use mathlib.Core.List.{List, [], ◌∷◌}
 use lib.ListN.{get_or, replicate}
@@ -7,11 +8,8 @@ use Rattle.cpu.specs.declared.types.Record.{Record}
 use Rattle.cpu.specs.declared.types.Request.{Request}
 use Rattle.trace.specs.Text.{digits_of, decimal, hex_digit, hex2, hex6, letter, direction, line_text, Put}
 use Rattle.lines.specs.Text.{past_of}
-use Rattle.lines.specs.Form.{cycle_end}
-use Rattle.course.specs.Course.{shown_of, request_text, turn_of, came, course_of}
+use Rattle.course.specs.Course.{shown_of, request_text, turn_of, next_of, came, course_of}
 use Rattle.course.specs.declared.types.Difference.{Difference}
-use Rattle.course.specs.declared.types.Met.{Met}
-use Rattle.course.specs.declared.types.Met.TheVariants.{Agreed, Differs}
 
 -- the line of cycle 1 fills 16 bytes
 line_chars : (q : Request) (l : List ℕ) (j : ℕ) → Put (replicate 16 0) l 0 j (line_text 1 q) → l ≡
@@ -33,20 +31,20 @@ request_lined t at q {l} {j} u a e b f = rw (e, a, f, b, line_chars q l j u)
 
 -- ---- n cycles are left, and m after this one
 
-pub course_more : (n m : ℕ) (t : List ℕ) (at done e p : ℕ) (r s : Record) (x : Met) → n ≡ suc m → x ≡ turn_of t at done r → x ≡ Agreed s
-    → e ≡ cycle_end t at → p ≡ past_of e 1 → course_of m t p (done + 1) s ≡ course_of n t at done r
+pub course_more : (n m : ℕ) (t : List ℕ) (at done p : ℕ) (r s : Record) (x : Result Record Difference) → n ≡ suc m → x ≡ turn_of t at done r → x ≡ Ok s
+    → p ≡ next_of t at → course_of m t p (done + 1) s ≡ course_of n t at done r
 unfolding course_of
-course_more n m t at done e p r s x h f k a b =
-    let g : turn_of t at done r ≡ Agreed s = sym f ∙ k in
-    rw (h, course_of, g, b, a)
+course_more n m t at done p r s x h f k a =
+    let g : turn_of t at done r ≡ Ok s = sym f ∙ k in
+    rw (h, course_of, g, a)
 
-pub course_differs : (n m : ℕ) (t : List ℕ) (at done : ℕ) (r : Record) (x : Met) (d : Difference) → n ≡ suc m → x ≡ turn_of t at done r → x ≡ Differs d
+pub course_differs : (n m : ℕ) (t : List ℕ) (at done : ℕ) (r : Record) (x : Result Record Difference) (d : Difference) → n ≡ suc m → x ≡ turn_of t at done r → x ≡ Err d
     → came x (done + 1) at ≡ course_of n t at done r
 unfolding course_of
 course_differs n m t at done r x d h f k =
-    let g : turn_of t at done r ≡ Differs d = sym f ∙ k in
+    let g : turn_of t at done r ≡ Err d = sym f ∙ k in
     rw (h, course_of, g, k)
 
-pub course_end : (n : ℕ) (t : List ℕ) (at done : ℕ) (r : Record) → n ≡ zero → came (Agreed r) done at ≡ course_of n t at done r
+pub course_end : (n : ℕ) (t : List ℕ) (at done k : ℕ) (r : Record) → n ≡ zero → k ≡ done → came (Ok r) k at ≡ course_of n t at done r
 unfolding course_of
-course_end n t at done r h = rw (h, course_of)
+course_end n t at done k r h e = rw (h, e, course_of)

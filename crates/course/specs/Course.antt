@@ -1,13 +1,11 @@
 -- The course of a case: each cycle's request beside what the line has, the line's byte as the answer, to the first cycle that differs.
-use Rattle.std.specs.Prelude.{ℕ, zero, suc, ◌+◌, ◌/◌, ◌%◌, Bool, false, ◌&&◌, ◌||◌, List, [], ◌∷◌, ltb, get_or, take, drop}
+use Rattle.std.specs.Prelude.{ℕ, zero, suc, ◌+◌, ◌/◌, ◌%◌, Bool, false, ◌&&◌, ◌||◌, List, [], ◌∷◌, ltb, get_or, take, drop, unwrap_or, Result, Ok, Err}
+use Rattle.course.specs.declared.types.Difference.{Difference}
+use Rattle.cpu.specs.declared.types.Refusal.{Refusal}
 use Rattle.words.specs.Words.{pick}
 use Rattle.cpu.specs.Record.{boundary}
 use Rattle.cpu.specs.declared.types.Record.{Record}
 use Rattle.cpu.specs.declared.types.Request.{Request}
-use Rattle.cpu.specs.declared.types.Asked.{Asked}
-use Rattle.cpu.specs.declared.types.Asked.TheVariants.{Ask, No}
-use Rattle.cpu.specs.declared.types.Answer.{Answer}
-use Rattle.cpu.specs.declared.types.Answer.TheVariants.{Next, Refused}
 use Rattle.trace.specs.Text.{letter, direction, hex_digit}
 use Rattle.step.specs.Cycle.{request_of, answer_of}
 use Rattle.lines.specs.Text.{past_of, byte_at, is_at, same_at, byte_of}
@@ -15,8 +13,6 @@ use Rattle.lines.specs.Form.{is_open, cycle_end}
 use Rattle.lines.specs.State.{words_of}
 use Rattle.lines.specs.declared.types.Places.{Places}
 use Rattle.course.specs.declared.types.Difference.TheVariants as differs
-use Rattle.course.specs.declared.types.Met.{Met}
-use Rattle.course.specs.declared.types.Met.TheVariants.{Agreed, Differs}
 use Rattle.course.specs.declared.types.Course.{Course}
 
 -- ---- what a cycle asked
@@ -49,38 +45,42 @@ agrees_of t at q = agrees_with t at (request_text t at q)
 abbrev pub home_of : Record → Bool
 home_of r = boundary r.held r.ir r.tcu
 
-abbrev pub met_by : Answer → Met
-met_by (Next r) = Agreed r
-met_by (Refused n) = Differs (differs.Refused n)
+abbrev pub met_by : Result Record Refusal → Result Record Difference
+met_by (Ok r) = Ok r
+met_by (Err n) = Err (differs.Refused n)
 
 -- once it is known what is asked
-abbrev pub asked_met : List ℕ → (at : ℕ) → Record → Asked → Met
-asked_met t at r (No n) = Differs (differs.Refused n)
-asked_met t at r (Ask q) = pick (agrees_of t at q) (met_by (answer_of r (byte_of t (past_of at 8)))) (Differs (differs.Asked q))
+abbrev pub asked_met : List ℕ → (at : ℕ) → Record → Result Request Refusal → Result Record Difference
+asked_met t at r (Err n) = Err (differs.Refused n)
+asked_met t at r (Ok q) = pick (agrees_of t at q) (met_by (answer_of r (byte_of t (past_of at 8)))) (Err (differs.Asked q))
 
-abbrev pub cycle_of : List ℕ → (at : ℕ) → Record → Met
+abbrev pub cycle_of : List ℕ → (at : ℕ) → Record → Result Record Difference
 cycle_of t at r = asked_met t at r (request_of r)
 
 -- after the first cycle a core that is home has no cycle left
-unfoldable pub turn_of : List ℕ → (at done : ℕ) → Record → Met
-turn_of t at done r = pick (ltb 0 done && home_of r) (Differs differs.Ended) (cycle_of t at r)
+unfoldable pub turn_of : List ℕ → (at done : ℕ) → Record → Result Record Difference
+turn_of t at done r = pick (ltb 0 done && home_of r) (Err differs.Ended) (cycle_of t at r)
 
 -- ---- all of them
 
-abbrev pub came : Met → (cycle at : ℕ) → Course
+abbrev pub came : Result Record Difference → (cycle at : ℕ) → Course
 came m n at = record { met = m; cycle = n; at = at }
+
+-- where the next cycle begins; after a place where none stands it is looked for from 1 on
+abbrev pub next_of : List ℕ → (at : ℕ) → ℕ
+next_of t at = past_of (unwrap_or (cycle_end t at) 0) 1
 
 -- so many cycles from a place on, with some done before them
 unfoldable pub course_of : (fuel : ℕ) → List ℕ → (at done : ℕ) → Record → Course
-course_of zero t at done r = came (Agreed r) done at
+course_of zero t at done r = came (Ok r) done at
 course_of (suc n) t at done r =
-    elim (turn_of t at done r) [ Agreed s ↦ course_of n t (past_of (cycle_end t at) 1) (done + 1) s | Differs d ↦ came (Differs d) (done + 1) at ]
+    elim (turn_of t at done r) [ Ok s ↦ course_of n t (next_of t at) (done + 1) s | Err d ↦ came (Err d) (done + 1) at ]
 
 -- ---- the end
 
 abbrev pub ends_alike : List ℕ → Places → Record → Bool
 ends_alike t p r = same_at t p.after (words_of r)
 
-abbrev pub is_same : List ℕ → Places → Met → Bool
-is_same t p (Agreed r) = home_of r && ends_alike t p r
-is_same t p (Differs d) = false
+abbrev pub is_same : List ℕ → Places → Result Record Difference → Bool
+is_same t p (Ok r) = home_of r && ends_alike t p r
+is_same t p (Err d) = false

@@ -8,6 +8,7 @@ use lines::text::{byte_at, is_at, past, same};
 use words::{both, either};
 
 // A character of the byte: a write's own; of a read the one that the line answers, `.` where it answers none.
+#[tactic(auto, unfolding(crate::specs::Course::shown_of))]
 fn shown(text: &[u8], at: usize, place: usize, write: bool, own: u8) -> u8
     ensures { result ≡ shown_of text.now at place write own }
 {
@@ -35,6 +36,7 @@ pub fn request_text(text: &[u8], at: usize, q: Request) -> [u8; 10]
 }
 
 // Whether a request is what the line has. Where the line names no kind any will do; a cycle that is left open is an internal one.
+#[tactic(auto, unfolding(crate::specs::Course::agrees_with))]
 pub fn agrees(text: &[u8], at: usize, q: Request) -> bool
     ensures { result ≡ agrees_of text.now at q }
 {

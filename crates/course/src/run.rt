@@ -1,13 +1,12 @@
 // A case's cycles one after the other.
 ghost use Rattle.std.specs.Prelude.{◌≡◌};
-ghost use Rattle.step.specs.Cycle.{answer_of};
 ghost use Rattle.lines.specs.State.{record_of};
-ghost use Rattle.course.specs.Course.{home_of, met_by, cycle_of, turn_of, course_of, ends_alike, is_same};
+ghost use Rattle.course.specs.Course.{home_of, cycle_of, turn_of, next_of, course_of, ends_alike, is_same};
 
 use crate::asked::agrees;
-use crate::types::{Course, Difference, Met};
+use crate::types::{Course, Difference};
 use cpu::record::at_boundary;
-use cpu::types::{Answer, Asked, Record};
+use cpu::types::Record;
 use lines::form::cycle_end;
 use lines::state::{record_of, words_of};
 use lines::text::{byte_of, past, same};
@@ -21,69 +20,57 @@ pub fn is_home(r: Record) -> bool
     at_boundary(r.held, r.ir, r.tcu)
 }
 
-fn answered(r: Record, b: u8) -> Met
-    ensures { result ≡ met_by (answer_of r b) }
-{
-    let got = step::answer(r, b);
-    match got {
-        Answer::Next(next) => Met::Agreed(next),
-        Answer::Refused(n) => Met::Differs(Difference::Refused(n)),
-    }
-}
-
 // One cycle. `byte_of` makes 00 of what a cycle that is left open has for a byte.
-fn cycle(text: &[u8], at: usize, r: Record) -> Met
+fn cycle(text: &[u8], at: usize, r: Record) -> Result<Record, Difference>
     ensures { result ≡ cycle_of text.now at r }
 {
-    let asked = step::request(r);
-    match asked {
-        Asked::No(n) => Met::Differs(Difference::Refused(n)),
-        Asked::Ask(q) => {
-            if agrees(text, at, q) {
-                answered(r, byte_of(text, past(at, 8)))
-            } else {
-                Met::Differs(Difference::Asked(q))
-            }
-        }
+    let asked = step::request(r)?;
+    if !agrees(text, at, asked) {
+        return Err(Difference::Asked(asked));
     }
+    Ok(step::answer(r, byte_of(text, past(at, 8)))?)
 }
 
 // After the first cycle a core that is home has no cycle left.
-fn turn(text: &[u8], at: usize, done: usize, r: Record) -> Met
+fn turn(text: &[u8], at: usize, done: usize, r: Record) -> Result<Record, Difference>
     ensures { result ≡ turn_of text.now at done r }
 {
     if both(0 < done, is_home(r)) {
-        Met::Differs(Difference::Ended)
+        Err(Difference::Ended)
     } else {
         cycle(text, at, r)
     }
+}
+
+// Where the cycle after the one at a place begins. In a line that `read` takes one stands there; in others it is looked for from 1 on, as `next_of` has it.
+fn next_place(text: &[u8], at: usize) -> usize
+    ensures { result ≡ next_of text.now at }
+{
+    past(cycle_end(text, at).unwrap_or(0), 1)
 }
 
 // The cycles of a case, from the record of its start on.
 pub fn run(text: &[u8], p: Places) -> Course
     ensures { result ≡ course_of p.count text.now p.cycles 0 (record_of text.now p.start) }
 {
-    let count = p.count;
     let mut at = p.cycles;
     let mut r = record_of(text, p.start);
-    let mut done: usize = 0;
-    while done < count {
+    for done in 0..p.count {
         let met = turn(text, at, done, r);
-        done += 1;
-        let Met::Agreed(next) = met else {
+        let Ok(next) = met else {
             return Course {
-                met: met,
-                cycle: done,
-                at: at,
+                met,
+                cycle: done + 1,
+                at,
             };
         };
         r = next;
-        at = past(cycle_end(text, at), 1);
+        at = next_place(text, at);
     }
     Course {
-        met: Met::Agreed(r),
-        cycle: done,
-        at: at,
+        met: Ok(r),
+        cycle: p.count,
+        at,
     }
 }
 
@@ -99,9 +86,8 @@ pub fn ends_alike(text: &[u8], p: Places, r: Record) -> bool
 pub fn is_same(text: &[u8], p: Places, c: Course) -> bool
     ensures { result ≡ is_same text.now p c.met }
 {
-    let met = c.met;
-    match met {
-        Met::Agreed(r) => both(is_home(r), ends_alike(text, p, r)),
-        Met::Differs(_) => false,
+    match c.met {
+        Ok(r) => both(is_home(r), ends_alike(text, p, r)),
+        Err(_) => false,
     }
 }

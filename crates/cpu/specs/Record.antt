@@ -1,5 +1,5 @@
 -- The record: well-formed ones, and the two ways in which a cycle makes a new one.
-use Rattle.std.specs.Prelude.{ℕ, ◌/◌, Bool, true, false, not, ◌&&◌, ◌||◌, eqb, ltb}
+use Rattle.std.specs.Prelude.{ℕ, ◌/◌, Bool, true, false, not, ◌&&◌, ◌||◌, Option, Some, None, eqb, ltb}
 use Rattle.words.specs.Words.{pick, implied, inc, dec, page_one, index}
 use Rattle.flags.specs.Flags.{byte_of, settled}
 use Rattle.flags.specs.declared.Flags.{Flags}
@@ -13,6 +13,8 @@ use Rattle.cpu.specs.declared.types.Stack.{Stack}
 use Rattle.cpu.specs.declared.types.Stack.TheVariants.{Paged, Raw, Home}
 use Rattle.cpu.specs.declared.types.Cond.{Cond}
 use Rattle.cpu.specs.declared.types.Cond.TheVariants as if
+use Rattle.cpu.specs.declared.types.Kind.{Kind}
+use Rattle.cpu.specs.declared.types.Kind.TheVariants as kind
 use Rattle.cpu.specs.declared.types.Refusal.{Refusal}
 use Rattle.cpu.specs.declared.types.Refusal.TheVariants.{Memory, Budget, Room, Malformed, Unlisted, NoCycle, Bank}
 
@@ -25,6 +27,18 @@ number_of Malformed = 4
 number_of Unlisted = 5
 number_of NoCycle = 6
 number_of Bank = 7
+
+-- 0 where nothing is refused
+abbrev pub number_in : Option Refusal → ℕ
+number_in None = 0
+number_in (Some n) = number_of n
+
+-- the kinds in document 01's order
+abbrev pub kind_number : Kind → ℕ
+kind_number kind.Opcode = 0
+kind_number kind.Program = 1
+kind_number kind.Data = 2
+kind_number kind.Invalid = 3
 
 -- ---- well-formed records
 

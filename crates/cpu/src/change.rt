@@ -7,27 +7,27 @@ ghost use Rattle.cpu.specs.Registers.{operates, pulls, transfers, wholly, direct
 ghost use Rattle.words.specs.Words.{low_set};
 
 use crate::registers::{
-    choose, half_of, is_first, is_top, is_wide, step, value_of, with_d, with_flags, with_half,
-    with_value,
+    ends_of, half_of, is_wide, step, value_of, with_d, with_flags, with_half, with_value,
 };
 use crate::types::{One, Part, Reg, Regs};
 use alu::ops::operate;
 use alu::shifts::shift_at;
 use alu::types::{Alu, Shift};
-use words::{down, index_at, low, swap, with_high, with_low};
+use words::{choose, down, index_at, low, swap, with_high, with_low};
 
 // A byte of an operation between a register and what was read.
+#[tactic(auto, unfolding(crate::specs::Registers::operates))]
 pub fn operated(k: Alu, r: Reg, p: Part, b: u8, g: Regs) -> Regs
     ensures { result ≡ operates k r p b g }
 {
     let v = value_of(r, g);
     let f = g.flags;
-    let o = operate(k, is_first(p), is_top(p), half_of(p, v), b, f);
-    let h = o.flags;
-    with_flags(h, with_value(r, with_half(p, v, o.byte), g))
+    let o = operate(k, ends_of(p), half_of(p, v), b, f);
+    with_flags(o.flags, with_value(r, with_half(p, v, o.byte), g))
 }
 
 // A byte of PLA, PLX or PLY: the flags come with the last one. The crate's `pull16!`.
+#[tactic(auto, unfolding(crate::specs::Registers::pulls))]
 pub fn pulled(r: Reg, p: Part, b: u8, g: Regs) -> Regs
     ensures { result ≡ pulls r p b g }
 {
@@ -44,6 +44,7 @@ pub fn pulled(r: Reg, p: Part, b: u8, g: Regs) -> Regs
 }
 
 // A value into a register at its width, with N and Z. The crate's `transfer!` and `inc_index!`.
+#[tactic(auto, unfolding(crate::specs::Registers::transfers))]
 fn transferred(r: Reg, v: u16, g: Regs) -> Regs
     ensures { result ≡ transfers r v g }
 {
@@ -53,18 +54,27 @@ fn transferred(r: Reg, v: u16, g: Regs) -> Regs
     with_flags(f.set_nz(v, wide), with_value(r, w, g))
 }
 
-fn whole(v: u16, g: Regs) -> Regs
+// TSC and TDC: all 16 bits of A.
+#[tactic(auto, unfolding(crate::specs::Registers::wholly))]
+pub fn whole(v: u16, g: Regs) -> Regs
     ensures { result ≡ wholly v g }
 {
-    let f = g.flags;
-    with_flags(f.set_nz(v, true), with_value(Reg::A, v, g))
+    Regs {
+        a: v,
+        flags: g.flags.set_nz(v, true),
+        ..g
+    }
 }
 
+#[tactic(auto, unfolding(crate::specs::Registers::directs))]
 pub fn direct(v: u16, g: Regs) -> Regs
     ensures { result ≡ directs v g }
 {
-    let f = g.flags;
-    with_flags(f.set_nz(v, true), with_d(v, g))
+    Regs {
+        d: v,
+        flags: g.flags.set_nz(v, true),
+        ..g
+    }
 }
 
 pub fn direct_low(b: u8, g: Regs) -> Regs
@@ -73,21 +83,31 @@ pub fn direct_low(b: u8, g: Regs) -> Regs
     with_d(with_low(g.d, b), g)
 }
 
-fn shifted(k: Shift, g: Regs) -> Regs
+// A shift or a step of the accumulator at its width.
+#[tactic(auto, unfolding(crate::specs::Registers::shifts))]
+pub fn shifted(k: Shift, g: Regs) -> Regs
     ensures { result ≡ shifts k g }
 {
     let f = g.flags;
     let o = shift_at(k, !f.memsel, g.a, f);
-    let h = o.flags;
-    with_flags(h, with_value(Reg::A, o.word, g))
+    Regs {
+        a: o.word,
+        flags: o.flags,
+        ..g
+    }
 }
 
-fn swapped(g: Regs) -> Regs
+// XBA: N and Z of the new low byte.
+#[tactic(auto, unfolding(crate::specs::Registers::swaps))]
+pub fn swapped(g: Regs) -> Regs
     ensures { result ≡ swaps g }
 {
-    let f = g.flags;
     let w = swap(g.a);
-    with_flags(f.set_nz(w, false), with_value(Reg::A, w, g))
+    Regs {
+        a: w,
+        flags: g.flags.set_nz(w, false),
+        ..g
+    }
 }
 
 fn carry(c: bool, g: Regs) -> Regs
@@ -119,21 +139,21 @@ fn clear_overflow(g: Regs) -> Regs
 }
 
 // REP and SEP: setting the index flag clears the high bytes of X and Y at once.
+#[tactic(auto, unfolding(crate::specs::Registers::masks))]
 pub fn masked(to: bool, b: u8, g: Regs) -> Regs
     ensures { result ≡ masks to b g }
 {
-    let old = g.flags;
-    let f = old.set_mask(b, to);
+    let f = g.flags.set_mask(b, to);
     Regs {
-        a: g.a,
         x: index_at(f.indexsel, g.x),
         y: index_at(f.indexsel, g.y),
-        d: g.d,
         flags: f,
+        ..g
     }
 }
 
 // A byte of a move: A falls by 1 as 16 bits at either width.
+#[tactic(auto, unfolding(crate::specs::Registers::moves))]
 pub fn moved(ups: bool, g: Regs) -> Regs
     ensures { result ≡ moves ups g }
 {
@@ -142,8 +162,7 @@ pub fn moved(ups: bool, g: Regs) -> Regs
         a: down(g.a),
         x: index_at(f.indexsel, step(ups, g.x)),
         y: index_at(f.indexsel, step(ups, g.y)),
-        d: g.d,
-        flags: f,
+        ..g
     }
 }
 
@@ -158,14 +177,12 @@ pub fn apply(k: One, s: u16, g: Regs) -> Regs
         One::Interrupt(t) => interrupt(t, g),
         One::Decimal(t) => decimal(t, g),
         One::Clv => clear_overflow(g),
-        One::Nop => g,
+        One::Nop | One::Txs | One::Tcs => g,
         One::Xce => with_flags(f.swap_ce(), g),
         One::Xba => swapped(g),
         One::Transfer(from, to) => transferred(to, value_of(from, g), g),
         One::Index(r, ups) => transferred(r, step(ups, value_of(r, g)), g),
         One::Tsx => transferred(Reg::X, s, g),
-        One::Txs => g,
-        One::Tcs => g,
         One::Tsc => whole(s, g),
         One::Tcd => direct(g.a, g),
         One::Tdc => whole(g.d, g),
@@ -177,21 +194,8 @@ pub fn stack_of(k: One, s: u16, g: Regs) -> u16
     ensures { result ≡ stack_of k s g }
 {
     match k {
-        One::Accumulator(_) => s,
-        One::Carry(_) => s,
-        One::Interrupt(_) => s,
-        One::Decimal(_) => s,
-        One::Clv => s,
-        One::Nop => s,
-        One::Xce => s,
-        One::Xba => s,
-        One::Transfer(_, _) => s,
-        One::Index(_, _) => s,
-        One::Tsx => s,
         One::Txs => g.x,
         One::Tcs => g.a,
-        One::Tsc => s,
-        One::Tcd => s,
-        One::Tdc => s,
+        _ => s,
     }
 }

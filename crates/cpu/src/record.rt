@@ -1,25 +1,50 @@
 // The record: which ones are well formed, the two ways in which a cycle makes a new one, the stack, and what is stored.
 ghost use Rattle.std.specs.Prelude.{◌≡◌};
-ghost use Rattle.words.specs.Words.{pick};
-ghost use Rattle.cpu.specs.Record.{number_of, boundary, narrowed, clean, well_formed, mid_of, regs_of, under_way, ended, pushed, pulled, source_of, wide_source, same, holds};
+ghost use Rattle.cpu.specs.Record.{number_of, kind_number, number_in, boundary, narrowed, clean, well_formed, mid_of, regs_of, under_way, ended, pushed, pulled, source_of, wide_source, holds};
 
 use crate::registers::{is_wide, value_of};
-use crate::types::{Cond, Mid, Record, Refusal, Regs, Source, Stack};
+use crate::types::{Cond, Kind, Mid, Record, Refusal, Regs, Source, Stack};
 use flags::Flags;
-use words::{both, down, either, implies, index_at, page_one, up};
+use words::{both, choose, down, either, implies, index_at, page_one, up};
 
 // Document 01's number of a refusal.
-pub fn number(n: Refusal) -> u8
-    ensures { result ≡ number_of n }
+impl From<Refusal> for u8 {
+    ghost from_gives = { λ n r. r ≡ number_of n };
+
+    fn from(n: Refusal) -> u8 {
+        match n {
+            Refusal::Memory => 1,
+            Refusal::Budget => 2,
+            Refusal::Room => 3,
+            Refusal::Malformed => 4,
+            Refusal::Unlisted => 5,
+            Refusal::NoCycle => 6,
+            Refusal::Bank => 7,
+        }
+    }
+}
+
+// A kind's number, in document 01's order.
+impl From<Kind> for u8 {
+    ghost from_gives = { λ k r. r ≡ kind_number k };
+
+    fn from(k: Kind) -> u8 {
+        match k {
+            Kind::Opcode => 0,
+            Kind::Program => 1,
+            Kind::Data => 2,
+            Kind::Invalid => 3,
+        }
+    }
+}
+
+// The number of a refusal, 0 where there is none.
+pub fn number_in(refusal: Option<Refusal>) -> u8
+    ensures { result ≡ number_in refusal }
 {
-    match n {
-        Refusal::Memory => 1,
-        Refusal::Budget => 2,
-        Refusal::Room => 3,
-        Refusal::Malformed => 4,
-        Refusal::Unlisted => 5,
-        Refusal::NoCycle => 6,
-        Refusal::Bank => 7,
+    match refusal {
+        None => 0,
+        Some(n) => u8::from(n),
     }
 }
 
@@ -49,6 +74,7 @@ fn is_clean(e: bool, s: u16, addr: u16, value: u16, bank: u8) -> bool
 }
 
 // Document 01's well-formed records; any other is refused with 4.
+#[tactic(auto, unfolding(crate::specs::Record::well_formed))]
 pub fn well_formed(r: Record) -> bool
     ensures { result ≡ well_formed r }
 {
@@ -58,6 +84,7 @@ pub fn well_formed(r: Record) -> bool
     both(narrow, implies(at_boundary(r.held, r.ir, r.tcu), clean))
 }
 
+// The parts of a record, by name: `Mid::from` and `Regs::from` would say no more, and `into` less.
 pub fn mid(r: Record) -> Mid
     ensures { result ≡ mid_of r }
 {
@@ -96,42 +123,36 @@ pub fn under_way(ir: u8, tcu: u8, pbr: u8, g: Regs, t: Mid) -> Record
         s: t.s,
         d: g.d,
         pc: t.pc,
-        pbr: pbr,
+        pbr,
         dbr: t.dbr,
         flags: f,
         held: true,
-        ir: ir,
-        tcu: tcu,
+        ir,
+        tcu,
         tempaddr: t.tempaddr,
         tempdata: t.tempdata,
         tempbank: t.tempbank,
     }
 }
 
-fn kept(again: bool, ir: u8) -> u8
-    ensures { result ≡ pick again ir 0 }
-{
-    if again { ir } else { 0 }
-}
-
 // An instruction's end or, if `again`, that of a move's byte. The crate's `enforce_emulation_stack` is part of every end.
+#[tactic(auto, unfolding(crate::specs::Record::ended))]
 pub fn finished(ir: u8, again: bool, pbr: u8, pc: u16, s: u16, dbr: u8, g: Regs) -> Record
     ensures { result ≡ ended ir again pbr pc s dbr g }
 {
-    let old = g.flags;
-    let f = old.settle();
+    let f = g.flags.settle();
     Record {
         a: g.a,
         x: index_at(f.indexsel, g.x),
         y: index_at(f.indexsel, g.y),
         s: page_one(f.emulation, s),
         d: g.d,
-        pc: pc,
-        pbr: pbr,
-        dbr: dbr,
+        pc,
+        pbr,
+        dbr,
         flags: f,
         held: again,
-        ir: kept(again, ir),
+        ir: choose(again, ir, 0),
         tcu: 0,
         tempaddr: 0,
         tempdata: 0,
@@ -140,6 +161,7 @@ pub fn finished(ir: u8, again: bool, pbr: u8, pc: u16, s: u16, dbr: u8, g: Regs)
 }
 
 // S after a push that stays in page 1 in emulation; `stack_push_raw` is `words::down`.
+#[tactic(auto, unfolding(crate::specs::Record::pushed))]
 pub fn stack_push(emulation: bool, s: u16) -> u16
     ensures { result ≡ pushed emulation s }
 {
@@ -147,6 +169,7 @@ pub fn stack_push(emulation: bool, s: u16) -> u16
 }
 
 // S after a pull, and the address that is read: `stack_pop`, `stack_pop_raw`, and RTL's first.
+#[tactic(auto, unfolding(crate::specs::Record::pulled))]
 pub fn stack_pop(k: Stack, emulation: bool, s: u16) -> u16
     ensures { result ≡ pulled k emulation s }
 {
@@ -179,16 +202,8 @@ pub fn is_wide_source(k: Source, m: bool, x: bool) -> bool
         Source::Register(r) => is_wide(r, m, x),
         Source::Zero => !m,
         Source::D => true,
-        Source::P => false,
-        Source::Pbr => false,
-        Source::Dbr => false,
+        Source::P | Source::Pbr | Source::Dbr => false,
     }
-}
-
-fn is_so(to: bool, t: bool) -> bool
-    ensures { result ≡ same to t }
-{
-    if to { t } else { !t }
 }
 
 // Whether a branch is taken. The crate's `branch!`.
@@ -197,9 +212,9 @@ pub fn taken(k: Cond, f: Flags) -> bool
 {
     match k {
         Cond::Always => true,
-        Cond::Carry(t) => is_so(t, f.carry),
-        Cond::Zero(t) => is_so(t, f.zero),
-        Cond::Negative(t) => is_so(t, f.negative),
-        Cond::Overflow(t) => is_so(t, f.overflow),
+        Cond::Carry(t) => f.carry == t,
+        Cond::Zero(t) => f.zero == t,
+        Cond::Negative(t) => f.negative == t,
+        Cond::Overflow(t) => f.overflow == t,
     }
 }

@@ -14,7 +14,8 @@ pub struct Record {
     pub pbr: u8,
     pub dbr: u8,
     pub flags: Flags,
-    pub held: bool, // an opcode is held: `ir`, with its next cycle, `tcu`
+    // An opcode is held: `ir`, with its next cycle, `tcu`. No Option, since the C interface keeps the two bytes of a record that holds none.
+    pub held: bool,
     pub ir: u8,
     pub tcu: u8,
     pub tempaddr: u16,
@@ -52,6 +53,7 @@ pub enum Kind {
     Invalid,
 }
 
+// What is asked of the bus; `byte` is what is written, 0 in a read, as the C interface and the sheet have it.
 #[derive(Clone, Copy)]
 pub struct Request {
     pub write: bool,
@@ -70,20 +72,6 @@ pub enum Refusal {
     Unlisted,
     NoCycle,
     Bank,
-}
-
-// What a record asks of the bus, or why it asks nothing.
-#[derive(Clone, Copy)]
-pub enum Asked {
-    Ask(Request),
-    No(Refusal),
-}
-
-// The record after a cycle, or why there is none.
-#[derive(Clone, Copy)]
-pub enum Answer {
-    Next(Record),
-    Refused(Refusal),
 }
 
 // The registers that operations work on.

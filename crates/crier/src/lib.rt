@@ -1,4 +1,5 @@
-// What rounds, refusals and benches say: a part of the three.
+// What rounds, refusals and benches start from and say: a part of the three.
 #![tactic(auto)]
 
 pub mod say;
+pub mod start;

@@ -1,5 +1,7 @@
 -- A request's number has its fields apart: address, byte, kind and direction can be read off their bits.
 use Prim.Native.Nat.{ℕ, ◌+◌, ◌*◌, ◌/◌, ◌%◌, ◌≤◌, ◌<◌}
+use Rattle.cpu.specs.declared.types.Refusal.{Refusal}
+use Rattle.std.proofs.Common.{Some, Result, Ok, Err}
 use mathlib.Core.Path.{◌≡◌, sym, subst}
 use mathlib.Core.Bool.{Bool, true, false, ◌||◌}
 use mathlib.Core.List.{List}
@@ -18,8 +20,6 @@ use Rattle.cpu.specs.declared.types.Source.{Source}
 use Rattle.cpu.specs.declared.types.Source.TheVariants as of
 use Rattle.cpu.specs.declared.types.Stack.{Stack}
 use Rattle.cpu.specs.declared.types.Stack.TheVariants.{Paged, Raw, Home}
-use Rattle.cpu.specs.declared.types.Asked.{Asked}
-use Rattle.cpu.specs.declared.types.Asked.TheVariants as asked
 use Rattle.opcodes.specs.Opcodes.{source_in}
 use Rattle.opcodes.specs.declared.types.Operation.{Operation}
 use Rattle.cycles.specs.declared.types.Micro.{Micro}
@@ -29,9 +29,9 @@ use Rattle.cycles.specs.declared.types.Ask.TheVariants.{Program, Idle, IdleBack,
 use Rattle.bus.specs.Bus.{given, ask_of}
 use Rattle.step.specs.Cycle.{micro_of, asked_by, request_of}
 use Rattle.packed.specs.Packed.{unpack, unpacked, byte_at}
-use Rattle.packed.specs.declared.types.Unpacked.TheVariants.{Good}
 use Rattle.packed.proofs.RoundTrip.{good_record}
-use Rattle.step.specs.Answers.{kind_number, asked_values}
+use Rattle.cpu.specs.Record.{kind_number}
+use Rattle.step.specs.Answers.{asked_values}
 use Rattle.numbers.specs.Numbers.{value_bits, asked_bits}
 use Rattle.numbers.proofs.Bytes.{Bytes}
 use Rattle.cycle_port.specs.Port.{request_number}
@@ -215,9 +215,9 @@ byte_small MoveIdle o r h = omega arith
 
 -- ---- what a record asks
 
-abbrev Small : Asked → Type 0
-Small (asked.Ask q) = (q.addr < 16777216) × (q.byte < 256)
-Small (asked.No n) = Unit
+abbrev Small : Result Request Refusal → Type 0
+Small (Ok q) = (q.addr < 16777216) × (q.byte < 256)
+Small (Err n) = Unit
 
 asked_small : (m : Micro) (r : Record) → Ranged r → Small (asked_by m r)
 asked_small (Refuse n) r h = tt
@@ -255,11 +255,11 @@ module _ (a b k w : ℕ) (ha : a < 16777216) (hb : b < 256) (hk : k < 4) (hw : w
   fourth : (a + b * 16777216 + k * 4294967296 + w * 1099511627776) / 1099511627776 ≡ w
   fourth = omega arith
 
-fields : (q : Request) → q.addr < 16777216 → q.byte < 256 → Fields q (asked_bits (asked.Ask q))
+fields : (q : Request) → q.addr < 16777216 → q.byte < 256 → Fields q (asked_bits (Ok q))
 fields q h g =
     let k = kind_small q.kind in
     let w = bit_small q.write in
-    subst (Fields q) (sym (add-zero (value_bits (asked_values (asked.Ask q))))) (record {
+    subst (Fields q) (sym (add-zero (value_bits (asked_values (Ok q))))) (record {
       addr = first q.addr q.byte (kind_number q.kind) (bit q.write) h g k w;
       byte = second q.addr q.byte (kind_number q.kind) (bit q.write) h g k w;
       kind = third q.addr q.byte (kind_number q.kind) (bit q.write) h g k w;
@@ -267,9 +267,9 @@ fields q h g =
     })
 
 -- whatever bytes a packed record has, what it asks stands in the number
-pub request_fields : (b : List ℕ) (r : Record) (q : Request) → Bytes b → unpacked b ≡ Good r → request_of r ≡ asked.Ask q → Fields q (request_number b)
+pub request_fields : (b : List ℕ) (r : Record) (q : Request) → Bytes b → unpacked b ≡ Some r → request_of r ≡ Ok q → Fields q (request_number b)
 unfolding request_number request_of
 request_fields b r q h e f =
     let g : Ranged r = subst Ranged (sym (good_record b r e)) (ranged b h) in
-    let s : Small (asked.Ask q) = subst Small f (asked_small (micro_of r) r g) in
+    let s : Small (Ok q) = subst Small f (asked_small (micro_of r) r g) in
     rw (e, f) (fields q s.0 s.1)

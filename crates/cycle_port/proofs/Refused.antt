@@ -25,4 +25,4 @@ unfolding request_number
 request_4 b h = rw h
 
 pub answer_4 : (b : List ℕ) (byte : ℕ) → is_packed b ≡ false → answer_bytes b byte ≡ record { number = 4; bytes = b }
-answer_4 b byte h = answer_bad b byte (unpacked b) refl (unfound b h)
+answer_4 b byte h = answer_bad b byte (unfound b h)

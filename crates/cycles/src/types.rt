@@ -104,10 +104,13 @@ pub enum To {
     Moved, // the end, or the move's next byte
 }
 
+// One cycle of a list: what it asks, what it does to PC, S and the scratch words, what to the registers, and where it leads.
 #[derive(Clone, Copy)]
-pub enum Cycle {
-    Absent,
-    Present(Ask, Move, Change, To),
+pub struct Cycle {
+    pub ask: Ask,
+    pub step: Move,
+    pub change: Change,
+    pub to: To,
 }
 
 #[derive(Clone, Copy)]

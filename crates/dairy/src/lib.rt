@@ -3,6 +3,5 @@
 
 pub mod entry;
 pub mod page;
-pub mod say;
 pub mod slip;
 pub mod yard;

@@ -1,27 +1,13 @@
-// Bytes of the memory, and numbers in decimal digits as the ROM leaves them there. Every function answers for any place.
+// The day's memory, and numbers in decimal digits as the ROM leaves them there. An address has 16 bits, so each has a byte.
 ghost use Rattle.std.specs.Prelude.{◌<◌};
 
-use std::num::wrapping_add_usize;
-use words::both;
+use std::array;
 
-// The place n bytes on.
-pub fn past(at: usize, n: usize) -> usize {
-    wrapping_add_usize(at, n)
-}
+pub type Memory = [u8; 65536];
 
-pub fn get(mem: &[u8; 65536], at: usize) -> u8 {
-    if at < 65536 { mem[at] } else { 0 }
-}
-
-pub fn set(mem: &mut [u8; 65536], at: usize, b: u8) {
-    if at < 65536 {
-        mem[at] = b;
-    }
-}
-
-// A word's four digits, its low byte first in memory.
-pub fn word(mem: &[u8; 65536], at: usize) -> u16 {
-    words::join(get(mem, at), get(mem, past(at, 1)))
+// The bytes from an address on; past the memory's end its begin comes.
+pub fn bytes_at<const N: usize>(mem: &Memory, at: u16) -> [u8; N] {
+    array::from_fn(|n| mem[(at as usize).wrapping_add(n) % 65536])
 }
 
 // The number that four decimal digits are.
@@ -34,7 +20,7 @@ pub fn value(w: u16) -> u64
 
 // Whether all four are decimal digits.
 pub fn is_decimal(w: u16) -> bool {
-    let upper = both(w / 4096 < 10, w / 256 % 16 < 10);
-    let lower = both(w / 16 % 16 < 10, w % 16 < 10);
-    both(upper, lower)
+    [w / 4096, w / 256 % 16, w / 16 % 16, w % 16]
+        .iter()
+        .all(|d| *d < 10)
 }

@@ -7,16 +7,16 @@ ghost use Rattle.decode.specs.Columns.{one_of, column_of, operation_of, index_of
 
 use alu::types::{Alu, Shift};
 use cpu::types::{Cond, One, Reg, Source};
-use opcodes::types::{Op, Operation, Shape};
+use opcodes::types::{Operation, Shape};
 
 // Loads and stores of Y, A and X stand side by side.
 fn column(op: u8) -> Reg
     ensures { result ≡ column_of op }
 {
-    if op % 4 == 0 {
-        Reg::Y
-    } else {
-        if op % 4 == 1 { Reg::A } else { Reg::X }
+    match op % 4 {
+        0 => Reg::Y,
+        1 => Reg::A,
+        _ => Reg::X,
     }
 }
 
@@ -24,8 +24,7 @@ fn column(op: u8) -> Reg
 fn operation(op: u8) -> Alu
     ensures { result ≡ operation_of op }
 {
-    let row = op / 32;
-    match row {
+    match op / 32 {
         0 => Alu::Ora,
         1 => Alu::And,
         2 => Alu::Eor,
@@ -48,8 +47,7 @@ fn condition(op: u8) -> Cond
     ensures { result ≡ condition_of op }
 {
     let to = op / 32 % 2 == 1;
-    let flag = op / 64;
-    match flag {
+    match op / 64 {
         0 => Cond::Negative(to),
         1 => Cond::Overflow(to),
         2 => Cond::Carry(to),
@@ -58,6 +56,7 @@ fn condition(op: u8) -> Cond
 }
 
 // An instruction of one byte; NOP for a byte that is none.
+#[tactic(auto, unfolding(crate::specs::Columns::one_of, opcodes::specs::Opcodes::one_bytes))]
 fn one_byte(op: u8) -> One
     ensures { result ≡ one_of op }
 {
@@ -98,79 +97,80 @@ fn one_byte(op: u8) -> One
 }
 
 // What a byte is as an opcode; unlisted ones are refused with 5.
-pub fn decode(op: u8) -> Op
+#[tactic(auto, unfolding(opcodes::specs::Opcodes::decode_of, opcodes::specs::Opcodes::opcodes, opcodes::specs::Opcodes::one_bytes))]
+pub fn decode(op: u8) -> Option<(Shape, Operation)>
     ensures { result ≡ decode_of op }
 {
     match op {
-        0x09 | 0x29 | 0x49 | 0x69 | 0xA9 | 0xC9 | 0xE9 => Op::Listed(
+        0x09 | 0x29 | 0x49 | 0x69 | 0xA9 | 0xC9 | 0xE9 => Some((
             Shape::Immediate,
             Operation::Read(operation(op), Reg::A),
-        ),
-        0x05 | 0x25 | 0x45 | 0x65 | 0xC5 | 0xE5 => Op::Listed(
+        )),
+        0x05 | 0x25 | 0x45 | 0x65 | 0xC5 | 0xE5 => Some((
             Shape::Direct,
             Operation::Read(operation(op), Reg::A),
-        ),
-        0x0D | 0x2D | 0x4D | 0x6D | 0xCD | 0xED => Op::Listed(
+        )),
+        0x0D | 0x2D | 0x4D | 0x6D | 0xCD | 0xED => Some((
             Shape::Absolute,
             Operation::Read(operation(op), Reg::A),
-        ),
-        0x24 => Op::Listed(Shape::Direct, Operation::Read(Alu::Bit, Reg::A)),
-        0x2C => Op::Listed(Shape::Absolute, Operation::Read(Alu::Bit, Reg::A)),
-        0x89 => Op::Listed(Shape::Immediate, Operation::Read(Alu::BitImmediate, Reg::A)),
-        0xA0 | 0xA2 => Op::Listed(Shape::Immediate, Operation::Read(Alu::Load, column(op))),
-        0xA4..=0xA6 => Op::Listed(Shape::Direct, Operation::Read(Alu::Load, column(op))),
-        0xAC..=0xAE => Op::Listed(Shape::Absolute, Operation::Read(Alu::Load, column(op))),
-        0xC0 | 0xE0 => Op::Listed(Shape::Immediate, Operation::Read(Alu::Cmp, index(op))),
-        0xC4 | 0xE4 => Op::Listed(Shape::Direct, Operation::Read(Alu::Cmp, index(op))),
-        0xCC | 0xEC => Op::Listed(Shape::Absolute, Operation::Read(Alu::Cmp, index(op))),
-        0x84..=0x86 => Op::Listed(
+        )),
+        0x24 => Some((Shape::Direct, Operation::Read(Alu::Bit, Reg::A))),
+        0x2C => Some((Shape::Absolute, Operation::Read(Alu::Bit, Reg::A))),
+        0x89 => Some((Shape::Immediate, Operation::Read(Alu::BitImmediate, Reg::A))),
+        0xA0 | 0xA2 => Some((Shape::Immediate, Operation::Read(Alu::Load, column(op)))),
+        0xA4..=0xA6 => Some((Shape::Direct, Operation::Read(Alu::Load, column(op)))),
+        0xAC..=0xAE => Some((Shape::Absolute, Operation::Read(Alu::Load, column(op)))),
+        0xC0 | 0xE0 => Some((Shape::Immediate, Operation::Read(Alu::Cmp, index(op)))),
+        0xC4 | 0xE4 => Some((Shape::Direct, Operation::Read(Alu::Cmp, index(op)))),
+        0xCC | 0xEC => Some((Shape::Absolute, Operation::Read(Alu::Cmp, index(op)))),
+        0x84..=0x86 => Some((
             Shape::StoreDirect,
             Operation::Give(Source::Register(column(op))),
-        ),
-        0x8C..=0x8E => Op::Listed(
+        )),
+        0x8C..=0x8E => Some((
             Shape::StoreAbsolute,
             Operation::Give(Source::Register(column(op))),
-        ),
-        0x64 => Op::Listed(Shape::StoreDirect, Operation::Give(Source::Zero)),
-        0x9C => Op::Listed(Shape::StoreAbsolute, Operation::Give(Source::Zero)),
-        0xEB => Op::Listed(Shape::Xba, Operation::Do(One::Xba)),
-        0xC2 => Op::Listed(Shape::Mask, Operation::Flag(false)),
-        0xE2 => Op::Listed(Shape::Mask, Operation::Flag(true)),
-        0x42 => Op::Listed(Shape::Wdm, Operation::Plain),
-        0x54 => Op::Listed(Shape::Move, Operation::Flag(true)),
-        0x44 => Op::Listed(Shape::Move, Operation::Flag(false)),
-        0x10 | 0x30 | 0x50 | 0x70 | 0x90 | 0xB0 | 0xD0 | 0xF0 => Op::Listed(
+        )),
+        0x64 => Some((Shape::StoreDirect, Operation::Give(Source::Zero))),
+        0x9C => Some((Shape::StoreAbsolute, Operation::Give(Source::Zero))),
+        0xEB => Some((Shape::Xba, Operation::Do(One::Xba))),
+        0xC2 => Some((Shape::Mask, Operation::Flag(false))),
+        0xE2 => Some((Shape::Mask, Operation::Flag(true))),
+        0x42 => Some((Shape::Wdm, Operation::Plain)),
+        0x54 => Some((Shape::Move, Operation::Flag(true))),
+        0x44 => Some((Shape::Move, Operation::Flag(false))),
+        0x10 | 0x30 | 0x50 | 0x70 | 0x90 | 0xB0 | 0xD0 | 0xF0 => Some((
             Shape::Branch,
             Operation::If(condition(op)),
-        ),
-        0x80 => Op::Listed(Shape::Branch, Operation::If(Cond::Always)),
-        0x82 => Op::Listed(Shape::BranchLong, Operation::Plain),
-        0x4C => Op::Listed(Shape::Jump, Operation::Plain),
-        0x6C => Op::Listed(Shape::JumpIndirect, Operation::Plain),
-        0x7C => Op::Listed(Shape::JumpIndexed, Operation::Plain),
-        0x5C => Op::Listed(Shape::JumpLong, Operation::Plain),
-        0xDC => Op::Listed(Shape::JumpIndirectLong, Operation::Plain),
-        0x20 => Op::Listed(Shape::Call, Operation::Plain),
-        0xFC => Op::Listed(Shape::CallIndexed, Operation::Plain),
-        0x22 => Op::Listed(Shape::CallLong, Operation::Plain),
-        0x60 => Op::Listed(Shape::Return, Operation::Plain),
-        0x6B => Op::Listed(Shape::ReturnLong, Operation::Plain),
-        0x48 => Op::Listed(Shape::Push, Operation::Give(Source::Register(Reg::A))),
-        0xDA => Op::Listed(Shape::Push, Operation::Give(Source::Register(Reg::X))),
-        0x5A => Op::Listed(Shape::Push, Operation::Give(Source::Register(Reg::Y))),
-        0x08 => Op::Listed(Shape::Push, Operation::Give(Source::P)),
-        0x8B => Op::Listed(Shape::Push, Operation::Give(Source::Dbr)),
-        0x0B => Op::Listed(Shape::Push, Operation::Give(Source::D)),
-        0x4B => Op::Listed(Shape::Push, Operation::Give(Source::Pbr)),
-        0x68 => Op::Listed(Shape::Pull, Operation::Take(Reg::A)),
-        0xFA => Op::Listed(Shape::Pull, Operation::Take(Reg::X)),
-        0x7A => Op::Listed(Shape::Pull, Operation::Take(Reg::Y)),
-        0x28 => Op::Listed(Shape::PullP, Operation::Plain),
-        0xAB => Op::Listed(Shape::PullB, Operation::Plain),
-        0x2B => Op::Listed(Shape::PullD, Operation::Plain),
-        0xF4 => Op::Listed(Shape::Pea, Operation::Plain),
-        0xD4 => Op::Listed(Shape::Pei, Operation::Plain),
-        0x62 => Op::Listed(Shape::Per, Operation::Plain),
+        )),
+        0x80 => Some((Shape::Branch, Operation::If(Cond::Always))),
+        0x82 => Some((Shape::BranchLong, Operation::Plain)),
+        0x4C => Some((Shape::Jump, Operation::Plain)),
+        0x6C => Some((Shape::JumpIndirect, Operation::Plain)),
+        0x7C => Some((Shape::JumpIndexed, Operation::Plain)),
+        0x5C => Some((Shape::JumpLong, Operation::Plain)),
+        0xDC => Some((Shape::JumpIndirectLong, Operation::Plain)),
+        0x20 => Some((Shape::Call, Operation::Plain)),
+        0xFC => Some((Shape::CallIndexed, Operation::Plain)),
+        0x22 => Some((Shape::CallLong, Operation::Plain)),
+        0x60 => Some((Shape::Return, Operation::Plain)),
+        0x6B => Some((Shape::ReturnLong, Operation::Plain)),
+        0x48 => Some((Shape::Push, Operation::Give(Source::Register(Reg::A)))),
+        0xDA => Some((Shape::Push, Operation::Give(Source::Register(Reg::X)))),
+        0x5A => Some((Shape::Push, Operation::Give(Source::Register(Reg::Y)))),
+        0x08 => Some((Shape::Push, Operation::Give(Source::P))),
+        0x8B => Some((Shape::Push, Operation::Give(Source::Dbr))),
+        0x0B => Some((Shape::Push, Operation::Give(Source::D))),
+        0x4B => Some((Shape::Push, Operation::Give(Source::Pbr))),
+        0x68 => Some((Shape::Pull, Operation::Take(Reg::A))),
+        0xFA => Some((Shape::Pull, Operation::Take(Reg::X))),
+        0x7A => Some((Shape::Pull, Operation::Take(Reg::Y))),
+        0x28 => Some((Shape::PullP, Operation::Plain)),
+        0xAB => Some((Shape::PullB, Operation::Plain)),
+        0x2B => Some((Shape::PullD, Operation::Plain)),
+        0xF4 => Some((Shape::Pea, Operation::Plain)),
+        0xD4 => Some((Shape::Pei, Operation::Plain)),
+        0x62 => Some((Shape::Per, Operation::Plain)),
         0x0A
         | 0x18
         | 0x1A
@@ -194,11 +194,11 @@ pub fn decode(op: u8) -> Op
         | 0xD8
         | 0xE8
         | 0xEA
-        | 0xF8 => Op::Listed(Shape::Implied, Operation::Do(one_byte(op))),
-        0x1B | 0x3B | 0x5B | 0x7B | 0x9B | 0xBB | 0xFB => Op::Listed(
+        | 0xF8 => Some((Shape::Implied, Operation::Do(one_byte(op)))),
+        0x1B | 0x3B | 0x5B | 0x7B | 0x9B | 0xBB | 0xFB => Some((
             Shape::Implied,
             Operation::Do(one_byte(op)),
-        ),
-        _ => Op::Unlisted,
+        )),
+        _ => None,
     }
 }

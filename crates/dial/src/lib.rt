@@ -15,24 +15,24 @@ pub struct Dial {
     pub last: u8, // the last digit, in ASCII
 }
 
-// The dial of a number's tens and its last digit.
+// The dial of a number's tens and its last digit. The digits come last first and end where nothing is left: no index is counted.
 fn of_tens(m: u32, last: u8) -> Dial
     ensures { result ≡ of_tens m last }
 {
-    let rest = m % 10_000_000;
-    let mut v: u64 = 0;
-    let mut w = 0;
-    let mut k = rest;
+    let tens = m % 10_000_000;
+    let mut front: u64 = 0;
+    let mut width = 0;
+    let mut k = tens;
     while 0 < k {
-        v = v * 256 + (48 + k % 10) as u64;
-        w += 1;
-        k = k / 10;
+        front = front * 256 + (48 + k % 10) as u64;
+        width += 1;
+        k /= 10;
     }
     Dial {
-        front: v,
-        width: w,
-        tens: rest,
-        last: last,
+        front,
+        width,
+        tens,
+        last,
     }
 }
 
@@ -49,10 +49,8 @@ pub fn turned(d: Dial) -> Dial
 {
     if d.last < 57 {
         return Dial {
-            front: d.front,
-            width: d.width,
-            tens: d.tens,
             last: d.last + 1,
+            ..d
         };
     }
     of_tens(d.tens % 10_000_000 + 1, 48)

@@ -1,70 +1,49 @@
 // Single instructions, through `request` and `answer`.
-use crate::say::{say, say_head, say_record, say_stop, start};
-use cpu::types::{Answer, Asked, Record, Request};
+use crate::say::{say_head, say_line, say_record, say_stop};
+use cpu::types::{Record, Refusal, Request};
 
-// One line of a trace, numbered within its figure: 16 bytes, since no figure has more than nine cycles.
-fn say_line(rt: &impl Print, n: u32, q: Request) {
-    let mut text = [0u8; 16];
-    trace::put_line(&mut text, 0, n, q);
-    say(rt, b"  ");
-    say(rt, &text);
+fn start(p: u8, emulation: bool) -> Record {
+    packed::bytes::start(0, 0, 0, 0x01FF, 0, 0x8000, 0, 0, p, emulation)
+}
+
+// What a figure starts from in native mode, but for what it says itself; P gives M, X, D and C.
+pub fn native(p: u8) -> Record {
+    start(p, false)
+}
+
+// The same in emulation.
+pub fn emulated(p: u8) -> Record {
+    start(p, true)
 }
 
 // The byte that crossed the bus: a write's own, or the one that was answered.
-fn crossed(q: Request, byte: u8) -> Request {
-    let kind = q.kind;
+fn crossed(q: Request, answered: u8) -> Request {
     Request {
-        write: q.write,
-        kind: kind,
-        addr: q.addr,
-        byte: either_byte(q.write, q.byte, byte),
+        byte: if q.write { q.byte } else { answered },
+        ..q
     }
-}
-
-fn either_byte(write: bool, own: u8, answered: u8) -> u8 {
-    if write { own } else { answered }
 }
 
 // One cycle: what was asked is printed; the record after, or the refusal.
-fn cycle(rt: &impl Print, n: u32, r: Record, byte: u8) -> Answer {
-    let asked = step::request(r);
-    match asked {
-        Asked::No(k) => Answer::Refused(k),
-        Asked::Ask(q) => {
-            say_line(rt, n, crossed(q, byte));
-            step::answer(r, byte)
-        }
-    }
+fn cycle(rt: &impl Print, n: u32, r: Record, byte: u8) -> Result<Record, Refusal> {
+    let q = step::request(r)?;
+    say_line(rt, n, crossed(q, byte));
+    step::answer(r, byte)
 }
 
 // A figure: the bytes are answered one after the other, a byte a cycle. The record that this comes to.
-pub fn figure(rt: &impl Print, name: &[u8], from: Record, bytes: &[u8]) -> Record {
-    say_head(rt, name, bytes, from.flags, from.d);
+pub fn figure(rt: &impl Print, name: &str, from: Record, bytes: &[u8]) -> Record {
+    say_head(rt, name, from, bytes);
     let mut at = from;
-    let mut n: usize = 0;
-    while n < bytes.len() {
-        let got = cycle(rt, (n % 100) as u32 + 1, at, bytes[n]);
-        let Answer::Next(next) = got else {
-            say_stop(rt, got);
-            return at;
-        };
-        at = next;
-        n += 1;
+    for (n, byte) in (1..).zip(bytes) {
+        match cycle(rt, n, at, *byte) {
+            Ok(next) => at = next,
+            Err(why) => {
+                say_stop(rt, why);
+                return at;
+            }
+        }
     }
-    say_record(rt, at, n);
+    say_record(rt, at, bytes.len());
     at
-}
-
-// A figure from such a start.
-pub fn show(
-    rt: &impl Print,
-    name: &[u8],
-    emulation: bool,
-    p: u8,
-    a: u16,
-    s: u16,
-    pc: u16,
-    bytes: &[u8],
-) {
-    figure(rt, name, start(emulation, p, a, s, pc), bytes);
 }

@@ -1,96 +1,36 @@
-// What the figures are printed with.
-use cpu::record::number;
-use cpu::types::{Answer, Record};
-use flags::Flags;
+// What the figures are printed with. What can't be written nobody can be told.
+use cpu::types::{Record, Refusal, Request};
 use tables::count::{cycle_count, length_of};
-use words::one_if;
 
-pub fn say(rt: &impl Print, text: &[u8]) {
-    let _ = rt.write_all(text);
+// A figure's name, and what the constant tables say of its first byte: a branch's count is that of one that isn't taken.
+pub fn say_head(rt: &impl Print, name: &str, from: Record, bytes: &[u8]) {
+    let _ = rt.println(name);
+    if let [first, ..] = bytes {
+        let cycles = cycle_count(*first, from.flags, from.d);
+        let size = length_of(*first, from.flags);
+        let _ = println!(rt; "  table: cycles {cycles} bytes {size}");
+    }
 }
 
-// An upper-case hex digit.
-fn digit(n: u16) -> u8 {
-    let d = (n % 16) as u8;
-    if d < 10 { 48 + d } else { 55 + d }
-}
-
-fn say_word(rt: &impl Print, name: &[u8], n: u16) {
-    say(rt, name);
-    say(
-        rt,
-        &[digit(n / 4096), digit(n / 256), digit(n / 16), digit(n)],
-    );
-}
-
-fn say_number(rt: &impl Print, name: &[u8], n: u64) {
-    say(rt, name);
-    let _ = rt.print(n);
-}
-
-// What a figure starts from; P gives M, X, D and C.
-pub fn start(emulation: bool, p: u8, a: u16, s: u16, pc: u16) -> Record {
-    packed::bytes::start(a, 0, 0, s, 0, pc, 0, 0, p, emulation)
-}
-
-fn say_words(rt: &impl Print, a: u16, x: u16, s: u16, pc: u16) {
-    say_word(rt, b"  A ", a);
-    say_word(rt, b" X ", x);
-    say_word(rt, b" S ", s);
-    say_word(rt, b" PC ", pc);
-}
-
-fn say_flag(rt: &impl Print, name: &[u8], t: bool) {
-    say_number(rt, name, one_if(t) as u64);
-}
-
-fn say_flags(rt: &impl Print, n: bool, v: bool, z: bool, c: bool) {
-    say_flag(rt, b"  N ", n);
-    say_flag(rt, b" V ", v);
-    say_flag(rt, b" Z ", z);
-    say_flag(rt, b" C ", c);
+// One line of a trace, numbered within its figure: 16 bytes, since no figure has more than nine cycles.
+pub fn say_line(rt: &impl Print, n: u32, q: Request) {
+    let mut text = [0u8; 16];
+    trace::put_line(&mut text, 0, n, q);
+    let _ = rt.print("  ");
+    let _ = rt.write_all(&text);
 }
 
 // A record still under way is said to be held.
-fn say_held(rt: &impl Print, held: bool) {
-    if held {
-        say(rt, b"  held\n")
-    } else {
-        say(rt, b"\n")
-    }
-}
-
 pub fn say_record(rt: &impl Print, r: Record, cycles: usize) {
     let f = r.flags;
-    say_words(rt, r.a, r.x, r.s, r.pc);
-    say_flags(rt, f.negative, f.overflow, f.zero, f.carry);
-    say_number(rt, b"  cycles ", cycles as u64);
-    say_held(rt, r.held);
+    let Record { a, x, s, pc, .. } = r;
+    let [n, v, z, c] = [f.negative, f.overflow, f.zero, f.carry].map(u8::from);
+    let held = if r.held { "  held" } else { "" };
+    let _ = print!(rt; "  A {a:04X} X {x:04X} S {s:04X} PC {pc:04X}");
+    let _ = println!(rt; "  N {n} V {v} Z {z} C {c}  cycles {cycles}{held}");
 }
 
 // The refusal that ended a figure.
-pub fn say_stop(rt: &impl Print, a: Answer) {
-    match a {
-        Answer::Next(_) => (),
-        Answer::Refused(n) => {
-            say_number(rt, b"  refused: ", number(n) as u64);
-            say(rt, b"\n");
-        }
-    }
-}
-
-// What the constant tables say of an opcode: a branch's count is that of one that isn't taken.
-fn say_table(rt: &impl Print, byte: u8, f: Flags, d: u16) {
-    say_number(rt, b"  table: cycles ", cycle_count(byte, f, d) as u64);
-    say_number(rt, b" bytes ", length_of(byte, f) as u64);
-    say(rt, b"\n");
-}
-
-// A figure's name, and what the tables say of its first byte.
-pub fn say_head(rt: &impl Print, name: &[u8], bytes: &[u8], f: Flags, d: u16) {
-    say(rt, name);
-    say(rt, b"\n");
-    if bytes.len() > 0 {
-        say_table(rt, bytes[0], f, d);
-    }
+pub fn say_stop(rt: &impl Print, why: Refusal) {
+    let _ = println!(rt; "  refused: {}", u8::from(why));
 }

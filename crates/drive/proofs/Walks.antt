@@ -28,7 +28,7 @@ use Rattle.drive.specs.declared.types.Walk.{Walk}
 -- the lines of a stretch, and of what follows it
 pub lines_both : (a b : ℕ) (r s : Record) (m k : List ℕ) → Passes a r m s k → (run_of (a + b) r m).lines ≡ (run_of a r m).lines ++ (run_of b s k).lines
 lines_both a b r s m k x =
-    ap (λ (e : End). e.lines) (cut a b r m x.number)
+    ap (λ (e : End). e.lines) (cut a b r m x.refusal)
     ∙ ap (λ (v : Record). (run_of a r m).lines ++ (run_of b v (run_of a r m).mem).lines) x.rec
     ∙ ap (λ (v : List ℕ). (run_of a r m).lines ++ (run_of b s v).lines) x.mem
 
@@ -66,6 +66,38 @@ no_lines : (r : Record) (m : List ℕ) → (run_of 0 r m).lines ≡ []
 unfolding run_of
 no_lines r m = refl
 
+-- ---- the lines of a pace
+module _ (r : Record) (m t : List ℕ) (k : Mark) (c : ℕ) where
+  -- where room and memory let them be drawn
+  module _ (m' t' : List ℕ) (o : Mark) (ls : List Request) (e : (run_of c r m).lines ≡ ls) where
+    pub drawn_all : k.place + 161 ≤ length t → length m' ≡ 65536 → Drawn t t' k o (pick (ready k.place t m') ls []) → Drawn t t' k o (run_of c r m).lines
+    drawn_all room whole d = subst (Drawn t t' k o) (sym e) (drawn_ready t t' m' k o ls d room whole)
+
+  -- without a cycle
+  module _ (z : c ≡ 0) where
+    none_of : (run_of c r m).lines ≡ []
+    none_of = ap (λ (i : ℕ). (run_of i r m).lines) z ∙ no_lines r m
+
+    pub drawn_nothing : Drawn t t k k (run_of c r m).lines
+    drawn_nothing = subst (Drawn t t k k) (sym none_of) (drawn_none t k)
+
+    pub small_nothing : Small (run_of c r m).lines
+    small_nothing = subst Small (sym none_of) tt
+
+module _ (r : Record) (m m' : List ℕ) (c : ℕ) where
+  abbrev byte_lines : List Request
+  byte_lines = haul_lines (get_or m r.pc 0) (get_or m (up r.pc 1) 0) (get_or m (up r.pc 2) 0) r.pc r.x r.y (get_or m r.x 0) (get_or m' r.y 0)
+
+  pub small_stride : (run_of c r m).lines ≡ stride_lines r m m' c → r.pc < 65536 → get_or m (up r.pc 2) 0 < 256 → Small (run_of c r m).lines
+  small_stride e pc byte =
+      subst Small (sym e)
+      (small_track (track_of (get_or m r.pc 0)) (unaligned r.d) (get_or m r.pc 0) (get_or m (up r.pc 1) 0) (get_or m (up r.pc 2) 0) r.pc r.d c m' pc byte)
+
+  pub small_byte : (run_of c r m).lines ≡ byte_lines → (r.pc < 65536) × (r.x < 65536) × (r.y < 65536) → Small (run_of c r m).lines
+  small_byte e z =
+      subst Small (sym e)
+      (small_haul (get_or m r.pc 0) (get_or m (up r.pc 1) 0) (get_or m (up r.pc 2) 0) r.pc r.x r.y (get_or m r.x 0) (get_or m' r.y 0) z.0 z.1 z.2)
+
 -- a loop that counts what is left of its budget down
 module _ (b l n p : ℕ) (r at : Record) (m₀ t₀ m t : List ℕ) (k : Mark) (fits : l ≤ b) (few : n + b ≤ most + 1)
     (so_far : Walked r m₀ t₀ n p (walk (b - l) k.place at) m t) (shows : k.dial ≡ dial_of (n + (b - l))) where
@@ -90,42 +122,19 @@ module _ (b l n p : ℕ) (r at : Record) (m₀ t₀ m t : List ℕ) (k : Mark) (
       let j : n + (b - l) + length ls ≡ n + (b - (l - c)) = omega (arith, h, fits, q) in
       d.dial ∙ ap (λ (v : Dial). turns_of v ls) shows ∙ turns_lines (n + (b - l)) ls (omega (arith, few, fits, h, q)) ∙ ap dial_of j
 
-  -- the same where room and memory let them be drawn
-  module _ (c : ℕ) (s : Record) (m' t' : List ℕ) (o : Mark) (ls : List Request) (h : c ≤ l) (x : Passes c at m s m') (e : (run_of c at m).lines ≡ ls)
-      (room : k.place + 161 ≤ length t) (whole : length m' ≡ 65536) (d : Drawn t t' k o (pick (ready k.place t m') ls [])) where
-    walked_on : well_formed s ≡ true → Small ls → Walked r m₀ t₀ n p (walk (b - (l - c)) o.place s) m' t'
-    walked_on w g = walked_by c s m' t' o ls h x w e g (drawn_ready t t' m' k o ls d room whole)
+  -- the same as they were drawn
+  module _ (c : ℕ) (s : Record) (m' t' : List ℕ) (o : Mark) (h : c ≤ l) (x : Passes c at m s m') (d : Drawn t t' k o (run_of c at m).lines) where
+    pub walked_on : well_formed s ≡ true → Small (run_of c at m).lines → Walked r m₀ t₀ n p (walk (b - (l - c)) o.place s) m' t'
+    walked_on w g = walked_by c s m' t' o (run_of c at m).lines h x w refl g d
 
     pub shows_on : o.dial ≡ dial_of (n + (b - (l - c)))
-    shows_on = shows_by c s m' t' o ls h x e (drawn_ready t t' m' k o ls d room whole)
+    shows_on = shows_by c s m' t' o (run_of c at m).lines h x refl d
 
-  -- a stride more, or a byte of a move
-  pub walked_stride : (c : ℕ) (s : Record) (m' t' : List ℕ) (o : Mark) → c ≤ l → Passes c at m s m' → (run_of c at m).lines ≡ stride_lines at m m' c
-      → k.place + 161 ≤ length t → length m' ≡ 65536 → Drawn t t' k o (pick (ready k.place t m') (stride_lines at m m' c) [])
-      → well_formed s ≡ true → at.pc < 65536 → get_or m (up at.pc 2) 0 < 256 → Walked r m₀ t₀ n p (walk (b - (l - c)) o.place s) m' t'
-  walked_stride c s m' t' o h x e room whole d w pc byte =
-      walked_on c s m' t' o (stride_lines at m m' c) h x e room whole d w
-      (small_track (track_of (get_or m at.pc 0)) (unaligned at.d) (get_or m at.pc 0) (get_or m (up at.pc 1) 0) (get_or m (up at.pc 2) 0) at.pc at.d c m' pc byte)
-
-  abbrev byte_lines : List ℕ → List Request
-  byte_lines m' =
-      haul_lines (get_or m at.pc 0) (get_or m (up at.pc 1) 0) (get_or m (up at.pc 2) 0) at.pc at.x at.y (get_or m at.x 0) (get_or m' at.y 0)
-
-  pub walked_haul : (c : ℕ) (s : Record) (m' t' : List ℕ) (o : Mark) → c ≤ l → Passes c at m s m' → (run_of c at m).lines ≡ byte_lines m'
-      → k.place + 161 ≤ length t → length m' ≡ 65536 → Drawn t t' k o (pick (ready k.place t m') (byte_lines m') [])
-      → well_formed s ≡ true → (at.pc < 65536) × (at.x < 65536) × (at.y < 65536) → Walked r m₀ t₀ n p (walk (b - (l - c)) o.place s) m' t'
-  walked_haul c s m' t' o h x e room whole d w z =
-      walked_on c s m' t' o (byte_lines m') h x e room whole d w
-      (small_haul (get_or m at.pc 0) (get_or m (up at.pc 1) 0) (get_or m (up at.pc 2) 0) at.pc at.x at.y (get_or m at.x 0) (get_or m' at.y 0) z.0 z.1 z.2)
-
-  -- none more
-  pub walked_stop : (c : ℕ) (s : Record) (m' : List ℕ) (w : Walk) → Passes c at m s m' → well_formed s ≡ true → c ≡ 0 → w ≡ walk (b - l) k.place s
-      → Walked r m₀ t₀ n p w m' t
-  walked_stop c s m' w x v z e =
-      let y : Passes 0 at m s m' = subst (λ (i : ℕ). Passes i at m s m') z x in
-      let j : b - (l - 0) ≡ b - l = omega arith in
-      let u : Walked r m₀ t₀ n p (walk (b - (l - 0)) k.place s) m' t = walked_by 0 s m' t k [] (omega arith) y v (no_lines at m) tt (drawn_none t k) in
-      subst (λ (i : Walk). Walked r m₀ t₀ n p i m' t) (ap (λ (i : ℕ). walk i k.place s) j ∙ sym e) u
+    -- and none more
+    pub walked_stop : (w : Walk) → well_formed s ≡ true → Small (run_of c at m).lines → c ≡ 0 → w ≡ walk (b - l) o.place s → Walked r m₀ t₀ n p w m' t'
+    walked_stop w v g z e =
+        let j : b - (l - c) ≡ b - l = omega (arith, z) in
+        subst (λ (i : Walk). Walked r m₀ t₀ n p i m' t') (ap (λ (i : ℕ). walk i o.place s) j ∙ sym e) (walked_on v g)
 
 -- from a record that is the same
 pub walked_from : (r s : Record) (m t : List ℕ) (n p : ℕ) (w : Walk) (m' t' : List ℕ) → s ≡ r → Walked s m t n p w m' t' → Walked r m t n p w m' t'
@@ -139,20 +148,3 @@ pub walked_start : (b : ℕ) (r : Record) (m t : List ℕ) (n p q : ℕ) → q �
 walked_start b r m t n p q e w =
     let j : 0 ≡ b - b = omega arith in
     subst (λ (v : Walk). Walked r m t n p v m t) (ap (λ (i : ℕ). walk i p r) j ∙ ap (λ (i : ℕ). walk (b - b) i r) (sym e)) (walked_none r m t n p w)
-
--- numbers of a loop: at least l₀ are left, and fewer than that are done at once
-pub done_few : (c l l₀ : ℕ) → c < l₀ → l₀ ≤ l → c ≤ l
-done_few c l l₀ h k = omega arith
-
-pub some_left : (c l l₀ : ℕ) → c < l₀ → l₀ ≤ l → 0 < l - c
-some_left c l l₀ h k = omega arith
-
-pub still_fits : (c l b : ℕ) → l ≤ b → l - c ≤ b
-still_fits c l b h = omega arith
-
-pub more_left : (l l₀ : ℕ) → l₀ < l → l₀ ≤ l
-more_left l l₀ h = omega arith
-
--- room for seven lines of 23 bytes, where there is room for eight of 22
-pub seven_fit : (p l len l₀ : ℕ) → p + 22 * l ≤ len → l₀ ≤ l → l₀ ≡ 8 → p + 161 ≤ len
-seven_fit p l len l₀ h k e = omega arith

@@ -7,7 +7,7 @@ use native.Mathlib.Omega.{arith}
 use native.Mathlib.Nat.{add-zero}
 use lib.Dec.{eqb, leb, ltb}
 use lib.ListN.{length}
-use borrow.Author.Tests.{eqb-true, leb-true, ltb-true}
+use borrow.Author.Tests.{eq-eqb, ne_eqb, eqb-true, leb-true, ltb-true}
 use Rattle.words.specs.Words.{pick}
 use Rattle.cpu.specs.Record.{well_formed}
 use Rattle.cpu.specs.declared.types.Record.{Record}
@@ -59,6 +59,13 @@ module _ (p before b : ℕ) (r : Record) (m t : List ℕ) where
   drives e =
       let h = parts (and_left (roomy p before b r m t) (ltb 0 b) e) in
       ((h.0.0, h.0.1, ltb-true _ _ (and_right (roomy p before b r m t) (ltb 0 b) e)), (omega (arith, h.1.0), h.1.1))
+
+  -- what the entry tests one after the other, and all of it
+  pub tested : (v : Bool) → length m ≡ size → ((fits && well_formed r) && ltb 0 b) ≡ v → drivable p before b r m t ≡ v
+  tested v k e = rw (eq-eqb _ _ k) e
+
+  pub not_whole : (length m ≡ size → ⊥) → drivable p before b r m t ≡ false
+  not_whole n = rw (ne_eqb _ _ n)
 
   -- what is promised of an answer
   abbrev Answered : Walk → (m' t' : List ℕ) → Type 0

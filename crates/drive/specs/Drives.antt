@@ -1,10 +1,11 @@
 -- Whole instructions with their lines in a text: how far they go at a stretch, and what they leave.
-use Rattle.std.specs.Prelude.{ℕ, ◌+◌, ◌*◌, ◌≡◌, Bool, true, ◌&&◌, List, eqb, leb, ltb, length}
+use Rattle.std.specs.Prelude.{ℕ, ◌+◌, ◌*◌, ◌≡◌, Bool, true, ◌&&◌, List, eqb, leb, ltb, length, get_or}
 use Rattle.std.proofs.lemmas.List.Edits.{sets}
-use Rattle.words.specs.Words.{pick}
+use Rattle.words.specs.Words.{pick, inc}
 use Rattle.cpu.specs.Record.{well_formed}
 use Rattle.cpu.specs.declared.types.Record.{Record}
 use Rattle.trace.specs.Text.{lines_text, Wrote}
+use Rattle.prints.specs.declared.Fetched.{Fetched}
 use Rattle.run.specs.Runs.{run_of, size, most}
 use Rattle.run.specs.Passes.{Passes}
 use Rattle.run.specs.Far.{ahead_far}
@@ -12,6 +13,10 @@ use Rattle.drive.specs.declared.types.Walk.{Walk}
 
 abbrev pub walk : (cycles place : ℕ) → Record → Walk
 walk n p r = record { cycles = n; place = p; after = r }
+
+-- what stands at a place, with the two bytes after it
+abbrev pub fetched : (m : List ℕ) (pc : ℕ) → Fetched
+fetched m p = record { pc = p; op = get_or m p 0; first = get_or m (inc p) 0; second = get_or m (inc (inc p)) 0 }
 
 -- a stretch of cycles from r and m, none refused, with its lines from number n on at place p of t
 pub record Walked (r : Record) (m t : List ℕ) (n p : ℕ) (w : Walk) (m' t' : List ℕ) : Type 0 where

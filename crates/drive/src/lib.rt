@@ -1,25 +1,26 @@
 // Whole instructions, and bytes of a move, at a stretch over a memory: all their lines at once, by their track.
 #![tactic(auto)]
 
-ghost use Rattle.std.specs.Prelude.{◌≡◌, true, ◌&&◌, [], ◌+◌, ◌*◌, ◌-◌, ◌≤◌, ◌<◌, leb, length, get_or};
-ghost use Rattle.words.specs.Words.{pick, inc};
+ghost use Rattle.std.specs.Prelude.{◌≡◌, true, ◌&&◌, ◌+◌, ◌*◌, ◌-◌, ◌≤◌, ◌<◌, leb, length, get_or};
+ghost use Rattle.std.proofs.Common.{rules};
 ghost use Rattle.cpu.specs.Record.{well_formed};
-ghost use Rattle.cycles.specs.Cycles.{unaligned};
-ghost use Rattle.stride.specs.Strides.{fresh};
-ghost use Rattle.tracks.specs.Tracks.{track_of, track_lines, place_by};
-ghost use Rattle.prints.specs.Prints.{Drawn, ready};
-ghost use Rattle.run.specs.Runs.{size, most};
-ghost use Rattle.run.specs.Passes.{Passes};
-ghost use Rattle.run.specs.Far.{strides_far, hauls_far, ahead_far};
-ghost use Rattle.drive.specs.Drives.{walk, Walked, Driven, gone_by};
+ghost use Rattle.prints.specs.Prints.{Drawn};
+ghost use Rattle.prints.proofs.Laws.{Small};
+ghost use Rattle.run.specs.Runs.{run_of, most};
+ghost use Rattle.run.specs.Passes.{Passes, Paced};
+ghost use Rattle.run.specs.Far.{far, ahead_far};
+ghost use Rattle.drive.specs.Drives.{walk, fetched, Walked, Driven, gone_by};
 
-use crate::types::{Bytes, Walk};
+use crate::types::Walk;
 use cpu::record::well_formed;
 use cpu::types::Record;
 use dial::dial_of;
 use haul::haul;
-use prints::{Mark, mark_of, put_haul, put_track};
+use prints::{Fetched, Mark, mark_of, put_haul, put_track};
+use run::pace::{Hauling, Pace, Striding};
+use run::types::Bank;
 use stride::stride::{cleared, is_fresh, stride};
+use stride::types::Stretch;
 use trace::has_room;
 use tracks::track;
 use words::{both, up};
@@ -30,126 +31,128 @@ fn walk_of(cycles: u32, place: usize, after: Record) -> Walk
     ensures { result ≡ walk cycles place after }
 {
     Walk {
-        cycles: cycles,
-        place: place,
-        after: after,
+        cycles,
+        place,
+        after,
     }
 }
 
-fn peek(mem: &[u8], p: u16) -> u8
-    requires { length mem.now ≡ 65536 }
-    ensures value { result ≡ get_or mem.now p 0 }
-    ensures small { result < 256 }
+fn peek(mem: &Bank, p: u16) -> u8
+    ensures { result ≡ get_or mem.now p 0 }
 {
     mem[p as usize]
 }
 
 // What stands at the program counter, before an instruction may change it.
-fn bytes_at(mem: &[u8], pc: u16) -> Bytes
-    requires { length mem.now ≡ 65536 }
-    ensures op_value { (result.op ≡ get_or mem.now pc 0) × (result.first ≡ get_or mem.now (inc pc) 0) × (result.second ≡ get_or mem.now (inc (inc pc)) 0) }
-    ensures small { result.second < 256 }
+fn fetched(mem: &Bank, pc: u16) -> Fetched
+    ensures { result ≡ fetched mem.now pc }
 {
-    Bytes {
+    Fetched {
+        pc,
         op: peek(mem, pc),
         first: peek(mem, up(pc)),
         second: peek(mem, up(up(pc))),
     }
 }
 
-// An instruction's lines, by the bytes that it was read from and the memory after it.
-fn put_stride(text: &mut [u8], m: Mark, b: Bytes, pc: u16, d: u16, n: u32, mem: &[u8]) -> Mark
-    ensures { Drawn text.old text.new m result (pick (ready m.place text.old mem.now) (track_lines (track_of b.op) (unaligned d) b.op b.first b.second pc (place_by (track_of b.op) d b.first b.second) n mem.now) []) }
-{
-    put_track(text, m, track(b.op), b.op, b.first, b.second, pc, d, n, mem)
+// A pace with its lines, which are drawn from what the memory held before it and holds after it.
+trait Lined: Pace {
+    fn lined(r: Record, mem: &mut Bank, text: &mut [u8], m: Mark) -> (Stretch, Mark)
+        requires { (well_formed r ≡ true) × (Self.start r ≡ true) × (m.place + 161 ≤ length text.old) }
+        ensures value { (result.0 ≡ Self.turn r mem.old) × (mem.new ≡ Self.memory r mem.old) }
+        ensures paced { Paced Self.start Self.FLOOR r mem.old result.0 mem.new }
+        ensures drawn { Drawn text.old text.new m result.1 (run_of result.0.cycles r mem.old).lines }
+        ensures small { Small (run_of result.0.cycles r mem.old).lines };
+
+    // With more than so many cycles left there is room for eight lines of 22 bytes, and that is room for seven of 23.
+    ghost wide: { 7 ≤ Self.FLOOR };
 }
 
-// As many instructions as there is room for, with their lines; a cycle at least is left.
-fn strides(
+impl Lined for Striding {
+    ghost wide = { Prim.search rules };
+
+    fn lined(r: Record, mem: &mut Bank, text: &mut [u8], m: Mark) -> (Stretch, Mark) {
+        let f = fetched(mem, r.pc);
+        let t = stride(r, mem);
+        if t.cycles == 0 {
+            return (t, m);
+        }
+        (t, put_track(text, m, track(f.op), f, r.d, t.cycles, mem))
+    }
+}
+
+impl Lined for Hauling {
+    ghost wide = { Prim.search rules };
+
+    fn lined(r: Record, mem: &mut Bank, text: &mut [u8], m: Mark) -> (Stretch, Mark) {
+        let f = fetched(mem, r.pc);
+        let v = peek(mem, r.x);
+        let t = haul(r, mem);
+        if t.cycles == 0 {
+            return (t, m);
+        }
+        (t, put_haul(text, m, f, r.x, r.y, v, mem))
+    }
+}
+
+// As many as there is room for, with their lines; a cycle at least is left.
+fn paces<P: Lined>(
     r: Record,
-    mem: &mut [u8],
+    mem: &mut Bank,
     text: &mut [u8],
     start: usize,
     number: u32,
     budget: u32,
 ) -> Walk
-    requires mem_len { (length mem.old ≡ size) × (well_formed r ≡ true) × (fresh r ≡ true) × (0 < budget) }
+    requires begins { (well_formed r ≡ true) × (P.start r ≡ true) × (0 < budget) }
     requires budget_bound { (number + budget ≤ most + 1) × (start + 22 * budget ≤ length text.old) }
     ensures walked { Walked r mem.old text.old number start result mem.new text.new }
     ensures less { result.cycles < budget }
-    ensures far { result.cycles ≡ strides_far budget r mem.old }
-{
-    let mut at = cleared(r);
-    let mut m = mark_of(dial_of(number), start);
-    let mut left = budget;
-    while left > 7 {
-        let pc = at.pc;
-        let d = at.d;
-        let b = bytes_at(mem, pc);
-        let t = stride(at, mem);
-        at = t.after;
-        if t.cycles == 0 {
-            return walk_of(budget - left, m.place, at);
-        }
-        m = put_stride(text, m, b, pc, d, t.cycles, mem);
-        left -= t.cycles;
-    }
-    walk_of(budget - left, m.place, at)
-}
-
-// As many bytes as there is room for, likewise.
-fn hauls(r: Record, mem: &mut [u8], text: &mut [u8], start: usize, number: u32, budget: u32) -> Walk
-    requires mem_len { (length mem.old ≡ size) × (well_formed r ≡ true) × (0 < budget) }
-    requires budget_bound { (number + budget ≤ most + 1) × (start + 22 * budget ≤ length text.old) }
-    ensures walked { Walked r mem.old text.old number start result mem.new text.new }
-    ensures less { result.cycles < budget }
-    ensures far { result.cycles ≡ hauls_far budget r mem.old }
+    ensures far { result.cycles ≡ far P.turn P.memory P.FLOOR budget budget r mem.old }
 {
     let mut at = r;
     let mut m = mark_of(dial_of(number), start);
     let mut left = budget;
-    while left > 8 {
-        let pc = at.pc;
-        let x = at.x;
-        let y = at.y;
-        let b = bytes_at(mem, pc);
-        let v = peek(mem, x);
-        let t = haul(at, mem);
+    while left > P::FLOOR {
+        let (t, next) = P::lined(at, mem, text, m);
         at = t.after;
+        m = next;
         if t.cycles == 0 {
             return walk_of(budget - left, m.place, at);
         }
-        m = put_haul(text, m, b.op, b.first, b.second, pc, x, y, v, mem);
         left -= t.cycles;
     }
     walk_of(budget - left, m.place, at)
 }
 
 // Either, by where the record stands.
-fn forth(r: Record, mem: &mut [u8], text: &mut [u8], start: usize, number: u32, budget: u32) -> Walk
-    requires mem_len { (length mem.old ≡ size) × (well_formed r ≡ true) × (0 < budget) }
+fn forth(r: Record, mem: &mut Bank, text: &mut [u8], start: usize, number: u32, budget: u32) -> Walk
+    requires begins { (well_formed r ≡ true) × (0 < budget) }
     requires budget_bound { (number + budget ≤ most + 1) × (start + 22 * budget ≤ length text.old) }
     ensures walked { Walked r mem.old text.old number start result mem.new text.new }
     ensures less { result.cycles < budget }
     ensures far { result.cycles ≡ ahead_far budget r mem.old }
 {
-    let fresh = is_fresh(r);
-    if fresh {
-        strides(r, mem, text, start, number, budget)
+    if is_fresh(r) {
+        paces::<Striding>(cleared(r), mem, text, start, number, budget)
     } else {
-        hauls(r, mem, text, start, number, budget)
+        paces::<Hauling>(r, mem, text, start, number, budget)
     }
 }
 
-// Whether the cycles done before and the budget come to a million at most, and so many lines have room: 22 bytes for one.
+// Whether the cycles done before and the budget come to a million at most. Their sum may not fit 32 bits, so it is made of 64.
+pub fn in_budget(before: u32, budget: u32) -> bool
+    ensures { result ≡ leb (before + budget) most }
+{
+    before as u64 + budget as u64 <= 1_000_000
+}
+
+// The same, and so many lines have room: 22 bytes for one.
 pub fn is_roomy(before: u32, budget: u32, start: usize, len: usize) -> bool
     ensures { result ≡ (leb (before + budget) most && leb (start + 22 * budget) len) }
 {
-    if 1_000_000 < budget {
-        return false;
-    }
     both(
-        before <= 1_000_000 - budget,
+        in_budget(before, budget),
         has_room(len, start, 22 * (budget as usize)),
     )
 }
@@ -170,16 +173,13 @@ pub fn ahead(
     if r.tcu != 0 {
         return walk_of(0, start, r);
     }
-    let fit = both(
-        both(
-            mem.len() == 65536,
-            is_roomy(before, budget, start, text.len()),
-        ),
-        well_formed(r),
-    );
+    let Some(whole) = mem.as_mut_array() else {
+        return walk_of(0, start, r);
+    };
+    let fit = both(is_roomy(before, budget, start, text.len()), well_formed(r));
     let go = both(fit, 0 < budget);
     if go {
-        forth(r, mem, text, start, before + 1, budget)
+        forth(r, whole, text, start, before + 1, budget)
     } else {
         walk_of(0, start, r)
     }

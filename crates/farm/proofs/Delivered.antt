@@ -1,5 +1,6 @@
 -- A delivery on a bus that has its program: where its two instructions lead.
 use Prim.Native.Nat.{ℕ, zero, suc, ◌+◌, ◌*◌, ◌<◌}
+use Rattle.std.proofs.Common.{Some}
 use mathlib.Core.Path.{◌≡◌, refl, ap, sym, ◌∙◌}
 use mathlib.Core.Bool.{Bool, true, false, ◌||◌, ◌&&◌}
 use mathlib.Core.List.{List, [], ◌∷◌}
@@ -18,7 +19,6 @@ use Rattle.cpu.specs.declared.types.Request.{Request}
 use Rattle.cpu.specs.declared.types.Kind.TheVariants.{Opcode, Program}
 use Rattle.cpu.specs.declared.types.One.TheVariants.{Carry}
 use Rattle.opcodes.specs.Opcodes.{decode_of, opcodes, one_bytes}
-use Rattle.opcodes.specs.declared.types.Op.TheVariants.{Listed}
 use Rattle.opcodes.specs.declared.types.Operation.TheVariants.{Read, Do}
 use Rattle.opcodes.specs.declared.types.Shape.TheVariants.{Immediate, Implied}
 use Rattle.bus.specs.Bus.{reads}
@@ -123,8 +123,8 @@ module _ (w : Bool) (bus : Bus) (t : ℕ) (r : Record) (h : Ready w r) where
   carried_ready : (c : Bool) → Ready w (carried r c)
   carried_ready c = ready_ended w r h _ _ _ _ _ _ (record { d = refl; m = refl; widths = refl }) h.digits (inc_small r.pc)
 
-  module _ (x y : ℕ) (d : Delivery) (rest : List ℕ) (hx : decode_of x ≡ Listed Implied (Do (Carry (carry_for d))))
-      (hy : decode_of y ≡ Listed Immediate (Read (alu_for d) A)) (q : Digits (bytes_of w) (amount d))
+  module _ (x y : ℕ) (d : Delivery) (rest : List ℕ) (hx : decode_of x ≡ Some (Implied, Do (Carry (carry_for d))))
+      (hy : decode_of y ≡ Some (Immediate, Read (alu_for d) A)) (q : Digits (bytes_of w) (amount d))
       (fed : Feeds bus r.pbr r.pc (x ∷ y ∷ operand w (amount d) rest)) where
     abbrev mid : Record
     mid = carried r (carry_for d)

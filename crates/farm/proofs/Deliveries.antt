@@ -1,5 +1,7 @@
 -- Delivery after delivery: what each conserves, all conserve.
 use Prim.Native.Nat.{ℕ, zero, suc, ◌+◌}
+use Rattle.cpu.specs.declared.types.Refusal.{Refusal}
+use Rattle.std.proofs.Common.{Result}
 use mathlib.Core.Path.{◌≡◌, refl, ap, sym, subst, ◌∙◌}
 use mathlib.Core.Bool.{Bool, true, false}
 use mathlib.Core.List.{List, [], ◌∷◌}
@@ -9,7 +11,6 @@ use lib.ListN.{length}
 use Rattle.words.specs.Words.{pick, bit, inc, up}
 use Rattle.cpu.specs.declared.types.Record.{Record}
 use Rattle.cpu.specs.declared.types.Request.{Request}
-use Rattle.cpu.specs.declared.types.Answer.{Answer}
 use Rattle.farm.specs.Pairs.{Delivery, Added, Taken, AllDigits, Bus, on_bus, Feeds, program, Tally, longer, counted, on_from, onward, tally, Ready, Conserved}
 use Rattle.farm.proofs.Instructions.{Goes}
 use Rattle.farm.proofs.Delivered.{Delivered, delivered, sum_asks_count}
@@ -19,7 +20,7 @@ onward_goes : (bus : Bus) (t : ℕ) (r s : Record) (qs : List Request) (n : ℕ)
     → onward bus t r rest ≡ longer n (rest (t + n) s)
 onward_goes bus t r s qs n rest g c =
     ap (λ (l : ℕ). longer l (on_from (on_bus bus t r).out (rest (t + l)))) (ap length g.requests ∙ c)
-    ∙ ap (λ (a : Answer). longer n (on_from a (rest (t + n)))) g.out
+    ∙ ap (λ (a : Result Record Refusal). longer n (on_from a (rest (t + n)))) g.out
 
 -- the time at its end
 abbrev pub later : (w : Bool) → (t : ℕ) → ℕ

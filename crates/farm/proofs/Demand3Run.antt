@@ -1,5 +1,6 @@
 -- Demand 3 of a run over a lent memory: the code's `run` gives it, by its contract.
 use Prim.Native.Nat.{ℕ, ◌+◌, ◌*◌, ◌≤◌, ◌<◌}
+use Rattle.std.proofs.Common.{Ok}
 use mathlib.Core.Path.{◌≡◌, ap, sym, subst, ◌∙◌}
 use mathlib.Core.Bool.{Bool, true, false}
 use mathlib.Core.List.{List, [], ◌∷◌}
@@ -8,7 +9,6 @@ use lib.ListN.{length, get_or}
 use Rattle.words.specs.Words.{sum16, at}
 use Rattle.words.proofs.WordLaws.{up_sum}
 use Rattle.cpu.specs.declared.types.Record.{Record}
-use Rattle.cpu.specs.declared.types.Answer.TheVariants.{Next}
 use Rattle.run.specs.Runs.{whole_run, size, most}
 use Rattle.run.proofs.Laws.{accepted}
 use Rattle.farm.specs.Pairs.{Delivery, most_deliveries, AllDigits, code_place, Feeds, program, Tally, tally, Ready, Conserved, per_delivery, cycles_for}
@@ -31,7 +31,7 @@ module _ (w : Bool) (m : List ℕ) (whole : length m ≡ size) where
 
   -- and of all of them: they lead to the tally's last record
   through_deliveries : (ds : List Delivery) (t : ℕ) (r s : Record) → Ready w r → AllDigits w ds → Feeds (lent m) r.pbr r.pc (program w ds)
-      → r.pbr ≡ 0 → (tally (lent m) ds t r).last ≡ Next s → Through m (cycles_for w ds) r s
+      → r.pbr ≡ 0 → (tally (lent m) ds t r).last ≡ Ok s → Through m (cycles_for w ds) r s
   unfolding tally
   through_deliveries [] t r s h q fed z e =
       let none : 0 ≡ cycles_for w [] = omega arith in
@@ -67,7 +67,7 @@ demand_3_run w r m ds h z q bound holds =
     let x = demand_3 w (lent m) r ds h q bound fed in
     let y = through_deliveries w m holds.whole ds 0 r x.0 h q fed z x.1.last in
     subst (RunConserved w r m ds) (sym (accepted (cycles_for w ds) r m holds.whole (budget_accepted w (length ds) bound))) (record {
-      number = y.number;
+      refusal = y.refusal;
       lines = omega (arith, y.count);
       mem = y.mem;
       conserved = subst (λ (s : Record). Conserved w r s ds (tally (lent m) ds 0 r)) (sym y.rec) x.1;

@@ -1,5 +1,6 @@
 -- The two instructions of a delivery on a bus: the sheet's rows, with the bytes that the bus answers put in.
 use Prim.Native.Nat.{ℕ, suc, ◌<◌}
+use Rattle.std.proofs.Common.{Some, Ok}
 use mathlib.Core.Path.{◌≡◌, ap, subst, ◌∙◌}
 use mathlib.Core.Bool.{Bool, true, false, not, not-not}
 use mathlib.Core.List.{List, [], ◌∷◌}
@@ -13,11 +14,9 @@ use Rattle.cpu.specs.declared.types.Record.{Record}
 use Rattle.cpu.specs.declared.types.Regs.{Regs}
 use Rattle.cpu.specs.declared.types.Reg.TheVariants.{A}
 use Rattle.cpu.specs.declared.types.Request.{Request}
-use Rattle.cpu.specs.declared.types.Answer.TheVariants.{Next}
 use Rattle.cpu.specs.declared.types.One.TheVariants.{Carry}
 use Rattle.cpu.proofs.Bytes.{with}
 use Rattle.opcodes.specs.Opcodes.{decode_of, wide_of}
-use Rattle.opcodes.specs.declared.types.Op.TheVariants.{Listed}
 use Rattle.opcodes.specs.declared.types.Operation.{Operation}
 use Rattle.opcodes.specs.declared.types.Operation.TheVariants.{Read, Do}
 use Rattle.opcodes.specs.declared.types.Shape.{Shape}
@@ -40,7 +39,7 @@ whole n = omega arith
 -- from r at time t an instruction makes those requests and ends at s
 pub record Goes (bus : Bus) (t : ℕ) (r s : Record) (qs : List Request) : Type 0 where
   pub requests : (on_bus bus t r).requests ≡ qs
-  pub out : (on_bus bus t r).out ≡ Next s
+  pub out : (on_bus bus t r).out ≡ Ok s
 
 -- K,PC+k
 abbrev pub place : Record → ℕ → ℕ
@@ -79,18 +78,18 @@ module _ (bus : Bus) (t : ℕ) (r : Record) (well : well_formed r ≡ true) (sta
   opcode_heard = rw fetches
 
   -- the byte that the bus answers to it names the row
-  on_sheet : (s : Shape) (o : Operation) → decode_of (bus t (O (place r 0))) ≡ Listed s o
+  on_sheet : (s : Shape) (o : Operation) → decode_of (bus t (O (place r 0))) ≡ Some (s, o)
       → on_bus bus t r ≡ sheet r b s o (wide_of o r.flags.memsel r.flags.indexsel) (unaligned r.d) r.flags.emulation
   unfolding instruction
   on_sheet s o h = demand_2 r b well start near ∙ ap (row r b) (ap decode_of opcode_heard ∙ h)
 
-  pub goes_carry : (c : Bool) → decode_of (bus t (O (place r 0))) ≡ Listed Implied (Do (Carry c)) → Goes bus t r (carried r c) (carry_asks r)
+  pub goes_carry : (c : Bool) → decode_of (bus t (O (place r 0))) ≡ Some (Implied, Do (Carry c)) → Goes bus t r (carried r c) (carry_asks r)
   unfolding ended
   goes_carry c h =
       let e = on_sheet Implied (Do (Carry c)) h in
       record { requests = ap (λ (u : Ran). u.requests) e; out = ap (λ (u : Ran). u.out) e }
 
-  module _ (k : Alu) (h : decode_of (bus t (O (place r 0))) ≡ Listed Immediate (Read k A)) (w : Bool) (wide : r.flags.memsel ≡ not w) where
+  module _ (k : Alu) (h : decode_of (bus t (O (place r 0))) ≡ Some (Immediate, Read k A)) (w : Bool) (wide : r.flags.memsel ≡ not w) where
     at_width : on_bus bus t r ≡ sheet r b Immediate (Read k A) w (unaligned r.d) r.flags.emulation
     at_width =
         on_sheet Immediate (Read k A) h
@@ -113,7 +112,7 @@ module _ (bus : Bus) (t : ℕ) (r : Record) (well : well_formed r ≡ true) (sta
         effect_8 r b (Read k A) 1 (rw only p.1)
         ∙ ap (λ (v : ℕ). with A (operated_at k false r.a v r.flags) (regs_of r)) only
 
-    pub goes_sum : decode_of (bus t (O (place r 0))) ≡ Listed Immediate (Read k A) → (w : Bool) → r.flags.memsel ≡ not w
+    pub goes_sum : decode_of (bus t (O (place r 0))) ≡ Some (Immediate, Read k A) → (w : Bool) → r.flags.memsel ≡ not w
         → Operand bus t r n w → Goes bus t r (summed r k n w) (sum_asks r w)
     unfolding ended
     goes_sum h w wide p =
@@ -121,5 +120,5 @@ module _ (bus : Bus) (t : ℕ) (r : Record) (well : well_formed r ≡ true) (sta
           requests = ap (λ (u : Ran). u.requests) e;
           out =
               ap (λ (u : Ran). u.out) e
-              ∙ ap (λ (g : Regs). Next (ended 0 false r.pbr (up r.pc (pick w 3 2)) r.s r.dbr g)) (effect_is w (operand_heard k h w wide) p);
+              ∙ ap (λ (g : Regs). Ok (ended 0 false r.pbr (up r.pc (pick w 3 2)) r.s r.dbr g)) (effect_is w (operand_heard k h w wide) p);
         }

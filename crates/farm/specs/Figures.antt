@@ -1,16 +1,15 @@
 -- Deliveries worked out by hand, on a bus that has their program and answers 0 elsewhere.
-use Rattle.std.specs.Prelude.{ℕ, ◌≡◌, Bool, true, false, List, [], ◌∷◌}
+use Rattle.std.specs.Prelude.{ℕ, ◌≡◌, Bool, true, false, List, [], ◌∷◌, Result, Ok, Err}
+use Rattle.cpu.specs.declared.types.Refusal.{Refusal}
 use Rattle.cpu.specs.declared.types.Record.{Record}
-use Rattle.cpu.specs.declared.types.Answer.{Answer}
-use Rattle.cpu.specs.declared.types.Answer.TheVariants.{Next, Refused}
 use Rattle.sheet.specs.FigureForm.{A, PC, PBR, d, c, ◌is◌, emulation, native8, native16}
 use Rattle.farm.specs.Pairs.{Delivery, Added, Taken, program, Tally, tally, Ready}
 use Rattle.farm.specs.Lent.{bus_of}
 
 -- A and PC at the end, and nothing of a refusal; then the wraps up, the wraps down and the cycles
-abbrev pub ending : Answer → (rest : List ℕ) → List ℕ
-ending (Next r) l = r.a ∷ r.pc ∷ l
-ending (Refused n) l = l
+abbrev pub ending : Result Record Refusal → (rest : List ℕ) → List ℕ
+ending (Ok r) l = r.a ∷ r.pc ∷ l
+ending (Err n) l = l
 
 abbrev pub seen : Tally → List ℕ
 seen y = ending y.last (y.ups ∷ y.downs ∷ y.cycles ∷ [])

@@ -1,5 +1,5 @@
 -- Where the program comes from: a bus made of its bytes, and a run's lent memory that has them in bank 0.
-use Rattle.std.specs.Prelude.{ℕ, zero, suc, ◌+◌, ◌-◌, ◌%◌, ◌<◌, ◌≡◌, Bool, List, [], ◌∷◌, length, get_or}
+use Rattle.std.specs.Prelude.{ℕ, zero, suc, ◌+◌, ◌-◌, ◌%◌, ◌<◌, ◌≡◌, Bool, List, [], ◌∷◌, None, length, get_or}
 use Rattle.cpu.specs.declared.types.Record.{Record}
 use Rattle.memory.specs.Turns.{bus_byte}
 use Rattle.run.specs.Runs.{End, size}
@@ -41,7 +41,7 @@ memory_of pc bytes = filled size (λ a. get_or bytes (place_from pc a) 0)
 
 -- how a run of the deliveries ends: not refused, a line for each cycle, the memory as it was, and the tally's last record
 pub record RunConserved (w : Bool) (r : Record) (m : List ℕ) (ds : List Delivery) (e : End) : Type 0 where
-  pub number : e.number ≡ 0
+  pub refusal : e.refusal ≡ None
   pub lines : length e.lines ≡ cycles_for w ds
   pub mem : e.mem ≡ m
   pub conserved : Conserved w r e.rec ds (tally (lent m) ds 0 r)

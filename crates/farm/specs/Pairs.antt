@@ -1,6 +1,7 @@
 -- Demand 3's words: deliveries in decimal digits, the program that adds and takes them, a bus that has that program, and what is
 -- counted while it runs. w: 16 bits wide.
-use Rattle.std.specs.Prelude.{ℕ, zero, suc, ◌+◌, ◌*◌, ◌<◌, ◌≡◌, Bool, true, false, not, List, [], ◌∷◌, length, get_or}
+use Rattle.std.specs.Prelude.{ℕ, zero, suc, ◌+◌, ◌*◌, ◌<◌, ◌≡◌, Bool, true, false, not, List, [], ◌∷◌, length, get_or, Result, Ok, Err}
+use Rattle.cpu.specs.declared.types.Refusal.{Refusal}
 use Rattle.words.specs.Words.{pick, bit, low_of, high_of, up, at}
 use Rattle.adder.specs.Digits.{Digits, value}
 use Rattle.cpu.specs.Record.{well_formed}
@@ -8,10 +9,6 @@ use Rattle.cpu.specs.declared.types.Record.{Record}
 use Rattle.cpu.specs.declared.types.Request.{Request}
 use Rattle.cpu.specs.declared.types.Kind.{Kind}
 use Rattle.cpu.specs.declared.types.Kind.TheVariants.{Opcode, Program, Data, Invalid}
-use Rattle.cpu.specs.declared.types.Asked.{Asked}
-use Rattle.cpu.specs.declared.types.Asked.TheVariants.{Ask, No}
-use Rattle.cpu.specs.declared.types.Answer.{Answer}
-use Rattle.cpu.specs.declared.types.Answer.TheVariants.{Next, Refused}
 use Rattle.bus.specs.Bus.{reads}
 use Rattle.step.specs.Cycle.{request_of, answer_of}
 use Rattle.sheet.specs.Run.{Ran, run}
@@ -77,13 +74,13 @@ abbrev pub Bus : Type 0
 Bus = ℕ → Request → ℕ
 
 -- nothing is heard where nothing is asked, and a refused cycle leaves the record
-abbrev pub reply : Bus → (t : ℕ) → Asked → ℕ
-reply bus t (Ask q) = bus t q
-reply bus t (No n) = 0
+abbrev pub reply : Bus → (t : ℕ) → Result Request Refusal → ℕ
+reply bus t (Ok q) = bus t q
+reply bus t (Err n) = 0
 
-abbrev pub left : Record → Answer → Record
-left r (Next s) = s
-left r (Refused n) = r
+abbrev pub left : Record → Result Record Refusal → Record
+left r (Ok s) = s
+left r (Err n) = r
 
 -- the byte that is heard in cycle k from a record at time t on
 unfoldable pub heard : Bus → (t : ℕ) → Record → ℕ → ℕ
@@ -115,7 +112,7 @@ pub record Feeds (bus : Bus) (bank pc : ℕ) (bytes : List ℕ) : Type 0 where
 -- the record after the last instruction or a refusal, the ADCs that ended with carry set, the SBCs that ended with carry clear,
 -- and the cycles
 pub record Tally : Type 0 where
-  pub last : Answer
+  pub last : Result Record Refusal
   pub ups : ℕ
   pub downs : ℕ
   pub cycles : ℕ
@@ -128,7 +125,7 @@ abbrev pub wraps_down : Delivery → (carry : Bool) → ℕ
 wraps_down (Added n) c = 0
 wraps_down (Taken n) c = bit (not c)
 
-abbrev pub stopped : Answer → Tally
+abbrev pub stopped : Result Record Refusal → Tally
 stopped a = record { last = a; ups = 0; downs = 0; cycles = 0 }
 
 -- so many cycles before the rest
@@ -140,9 +137,9 @@ abbrev pub counted : Delivery → (carry : Bool) → Tally → Tally
 counted d c y = record { last = y.last; ups = wraps_up d c + y.ups; downs = wraps_down d c + y.downs; cycles = y.cycles }
 
 -- on from where an instruction ended; a refusal ends all
-abbrev pub on_from : Answer → (Record → Tally) → Tally
-on_from (Next s) f = f s
-on_from (Refused n) f = stopped (Refused n)
+abbrev pub on_from : Result Record Refusal → (Record → Tally) → Tally
+on_from (Ok s) f = f s
+on_from (Err n) f = stopped (Err n)
 
 -- an instruction at time t, then the rest from the time and the record at its end
 abbrev pub onward : Bus → (t : ℕ) → Record → (ℕ → Record → Tally) → Tally
@@ -152,7 +149,7 @@ onward bus t r rest =
 
 -- two instructions for each delivery
 unfoldable pub tally : Bus → List Delivery → (t : ℕ) → Record → Tally
-tally bus [] t r = stopped (Next r)
+tally bus [] t r = stopped (Ok r)
 tally bus (d ∷ ds) t r = onward bus t r (λ t₁ s. onward bus t₁ s (λ t₂ u. counted d u.flags.carry (tally bus ds t₂ u)))
 
 -- ---- what is asked of the record, and what is promised
@@ -182,7 +179,7 @@ cycles_for w ds = per_delivery w * length ds
 
 -- from r by the deliveries to s: nothing was refused, s is ready for more and its PC past the program, and no digit was lost
 pub record Conserved (w : Bool) (r s : Record) (ds : List Delivery) (y : Tally) : Type 0 where
-  pub last : y.last ≡ Next s
+  pub last : y.last ≡ Ok s
   pub ready : Ready w s
   pub bank : s.pbr ≡ r.pbr
   pub past : s.pc ≡ up r.pc (length (program w ds))

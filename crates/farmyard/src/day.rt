@@ -1,20 +1,18 @@
 // The day's run: to the first move, that move's first byte with a trace, then to the end.
 use audit::rom::{MOVE, START, STOP};
-use cpu::types::Record;
+use cpu::types::{Record, Refusal};
+use dairy::yard::Memory;
 use run::run::run;
-use std::num::wrapping_add_u32;
+use run::types::Outcome;
 use traced::traced::traced_run;
-use words::both;
 
-// How the day went. `moved` and `stopped` say that the first move and STP were come to at an instruction's start.
+// How the day went: whether the first move was come to, the trace of its first byte, the cycles of it all, and how the rest ended.
 #[derive(Clone, Copy)]
-pub struct Day {
+pub struct Day<'a> {
     pub moved: bool,
-    pub written: usize, // bytes of the trace
+    pub trace: &'a [u8],
     pub cycles: u32,
-    pub refusal: u8,
-    pub pc: u16,
-    pub stopped: bool,
+    pub end: Outcome,
 }
 
 // As a reset leaves the chip: emulation, 8 bits, no interrupts, S in page 1.
@@ -22,27 +20,30 @@ fn awake() -> Record {
     packed::bytes::start(0, 0, 0, 0x01FF, 0, START, 0, 0, 0x34, true)
 }
 
+// Whether an instruction's start there was come to.
 fn is_at(r: Record, pc: u16) -> bool {
-    both(!r.held, r.pc == pc)
-}
-
-fn sum3(a: u32, b: u32, c: u32) -> u32 {
-    wrapping_add_u32(wrapping_add_u32(a, b), c)
+    !r.held && r.pc == pc
 }
 
 // The first move is looked for after `before` cycles. A moved byte takes seven.
-pub fn run_day(mem: &mut [u8; 65536], text: &mut [u8; 160], before: u32) -> Day {
+pub fn run_day<'a>(mem: &mut Memory, text: &'a mut [u8; 160], before: u32) -> Day<'a> {
     let start = run(awake(), mem, before);
-    let first = start.after;
-    let byte = traced_run(first, mem, text, 7);
-    let rest = run(byte.after, mem, 1_000_000);
-    let last = rest.after;
+    let byte = traced_run(start.after, mem, text, 7);
+    let end = run(byte.after, mem, 1_000_000);
     Day {
-        moved: is_at(first, MOVE),
-        written: byte.written,
-        cycles: sum3(start.cycles, byte.cycles, rest.cycles),
-        refusal: rest.refusal,
-        pc: last.pc,
-        stopped: is_at(last, STOP),
+        moved: is_at(start.after, MOVE),
+        trace: &text[..byte.written.min(160)],
+        cycles: start
+            .cycles
+            .wrapping_add(byte.cycles)
+            .wrapping_add(end.cycles),
+        end,
+    }
+}
+
+impl Day<'_> {
+    // STP isn't in the paper's list, so the day's end is a refusal there.
+    pub fn is_done(&self) -> bool {
+        matches!(self.end.refusal, Some(Refusal::Unlisted)) && is_at(self.end.after, STOP)
     }
 }

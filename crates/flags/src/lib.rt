@@ -32,11 +32,12 @@ fn weigh_if(t: bool, weight: u8) -> u8
     ensures value { result ≡ weigh t weight }
     ensures small { result ≤ weight }
 {
-    if t { weight } else { 0 }
+    choose(t, weight, 0)
 }
 
 impl Flags {
     // The byte that PHP pushes: in emulation bits 4 and 5 are set.
+    #[tactic(auto, unfolding(crate::specs::Flags::byte_of))]
     pub fn as_byte(self) -> u8
         ensures { result ≡ byte_of self }
     {
@@ -53,6 +54,7 @@ impl Flags {
     }
 
     // REP clears the flags of a mask and SEP sets them; in emulation the width flags stay.
+    #[tactic(auto, unfolding(crate::specs::Flags::set_mask))]
     pub fn set_mask(mut self, mask: u8, set: bool) -> Self
         ensures { result ≡ set_mask self mask set }
     {
@@ -70,11 +72,12 @@ impl Flags {
             memsel: choose(e, self.memsel, choose(bit_of(mask, 32), set, self.memsel)),
             overflow: choose(bit_of(mask, 64), set, self.overflow),
             negative: choose(bit_of(mask, 128), set, self.negative),
-            emulation: e,
+            ..self
         }
     }
 
     // PLP sets the flags from a byte; in emulation the width flags stay. The crate's `set`.
+    #[tactic(auto, unfolding(crate::specs::Flags::set_byte))]
     pub fn set(mut self, value: u8) -> Self
         ensures { result ≡ set_byte self value }
     {
@@ -88,7 +91,7 @@ impl Flags {
             memsel: choose(e, self.memsel, bit_of(value, 32)),
             overflow: bit_of(value, 64),
             negative: bit_of(value, 128),
-            emulation: e,
+            ..self
         }
     }
 
@@ -99,17 +102,14 @@ impl Flags {
         Flags {
             carry: c,
             zero: z,
-            interruptdisable: self.interruptdisable,
-            decimal: self.decimal,
-            indexsel: self.indexsel,
-            memsel: self.memsel,
             overflow: v,
             negative: n,
-            emulation: self.emulation,
+            ..self
         }
     }
 
     // N and Z of a value at its width.
+    #[tactic(auto, unfolding(crate::specs::Flags::set_nz))]
     pub fn set_nz(mut self, value: u16, wide: bool) -> Self
         ensures { result ≡ set_nz self value wide }
     {
@@ -124,15 +124,9 @@ impl Flags {
         ensures { result ≡ set_id self i d }
     {
         Flags {
-            carry: self.carry,
-            zero: self.zero,
             interruptdisable: i,
             decimal: d,
-            indexsel: self.indexsel,
-            memsel: self.memsel,
-            overflow: self.overflow,
-            negative: self.negative,
-            emulation: self.emulation,
+            ..self
         }
     }
 
@@ -142,14 +136,8 @@ impl Flags {
     {
         Flags {
             carry: self.emulation,
-            zero: self.zero,
-            interruptdisable: self.interruptdisable,
-            decimal: self.decimal,
-            indexsel: self.indexsel,
-            memsel: self.memsel,
-            overflow: self.overflow,
-            negative: self.negative,
             emulation: self.carry,
+            ..self
         }
     }
 
@@ -157,17 +145,10 @@ impl Flags {
     pub fn settle(mut self) -> Self
         ensures { result ≡ settled self }
     {
-        let e = self.emulation;
         Flags {
-            carry: self.carry,
-            zero: self.zero,
-            interruptdisable: self.interruptdisable,
-            decimal: self.decimal,
-            indexsel: either(e, self.indexsel),
-            memsel: either(e, self.memsel),
-            overflow: self.overflow,
-            negative: self.negative,
-            emulation: e,
+            indexsel: either(self.emulation, self.indexsel),
+            memsel: either(self.emulation, self.memsel),
+            ..self
         }
     }
 }

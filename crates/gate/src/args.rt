@@ -1,7 +1,8 @@
 // Words among the arguments.
-ghost use Rattle.std.specs.Prelude.{◌≤◌, length, IfOk};
+ghost use Rattle.std.specs.Prelude.{◌≡◌, ◌+◌, ◌%◌, ◌^◌, ◌≤◌, length, IfOk};
+ghost use Rattle.std.specs.Option.{option_map};
+ghost use Rattle.pails.specs.Pails.{argument_at};
 
-use lines::text::same;
 use std::env::{Env, FillError};
 use std::io;
 
@@ -12,12 +13,12 @@ const TOO_LONG: i32 = 36;
 
 const NO_TEXT: i32 = 84;
 
-// An argument's bytes, at the start of `room`: how many; or why they can't be had.
-pub fn get(rt: &impl Env, arg: usize, room: &mut [u8]) -> io::Result<usize>
-    ensures { IfOk result (λ n. n ≤ length room.new) }
+// An argument's bytes, which are put into `room`; or why they can't be had.
+pub fn get<'a>(rt: &impl Env, arg: usize, room: &'a mut [u8]) -> io::Result<&'a [u8]>
+    ensures { IfOk result (λ text. length text.now ≤ length room.old) }
 {
     match rt.arg(arg, room) {
-        Ok(n) => Ok(n),
+        Ok(n) => Ok(&room[..n]),
         Err(FillError::NotPresent) => Err(io::Error::from_raw_os_error(MISSING)),
         Err(FillError::TooLong) => Err(io::Error::from_raw_os_error(TOO_LONG)),
     }
@@ -25,43 +26,64 @@ pub fn get(rt: &impl Env, arg: usize, room: &mut [u8]) -> io::Result<usize>
 
 // A file's name as text: std opens no other.
 pub fn path(name: &[u8]) -> io::Result<&str> {
-    match str::from_utf8(name) {
-        Ok(text) => Ok(text),
-        Err(_) => Err(io::Error::from_raw_os_error(NO_TEXT)),
-    }
+    str::from_utf8(name).map_err(|_| io::Error::from_raw_os_error(NO_TEXT))
 }
 
 // Whether an argument is that word, which has at most 16 characters.
 fn is_word(rt: &impl Env, arg: usize, word: &[u8]) -> bool {
-    let mut text = [0u8; 16];
-    let Ok(n) = rt.arg(arg, &mut text) else {
-        return false;
-    };
-    if n != word.len() {
-        return false;
-    }
-    same(&text, 0, word)
+    let mut room = [0u8; 16];
+    get(rt, arg, &mut room).is_ok_and(|text| text == word)
 }
 
 // How many arguments there are, the program's own name among them.
 pub fn count(rt: &impl Env) -> usize {
-    let mut none = [0u8; 0];
-    for i in 0..usize::MAX {
-        if let Err(FillError::NotPresent) = rt.arg(i, &mut none) {
-            return i;
-        }
-    }
-    usize::MAX
+    let past = |&i: &usize| matches!(rt.arg(i, &mut []), Err(FillError::NotPresent));
+    (0..usize::MAX).find(past).unwrap_or(usize::MAX)
 }
 
-// Where `--out` stands, or a place that no argument has.
-pub fn out_place(rt: &impl Env, count: usize) -> usize {
-    let mut i: usize = 1;
-    while i < count {
-        if is_word(rt, i, b"--out") {
-            return i;
+// A program's arguments, with what it asks the system by and where it complains.
+#[derive(Drop)]
+pub struct Arguments<'a, R, E> {
+    pub rt: &'a R,
+    pub err: &'a E,
+    pub count: usize,
+    // where `--out` stands
+    pub out: Option<usize>,
+}
+
+impl<'a, R: Env, E> Arguments<'a, R, E> {
+    // Where `--out` is a word like any other.
+    pub fn plain(rt: &'a R, err: &'a E) -> Arguments<'a, R, E> {
+        Arguments {
+            rt,
+            err,
+            count: count(rt),
+            out: None,
         }
-        i += 1;
     }
-    usize::MAX
+
+    pub fn new(rt: &'a R, err: &'a E) -> Arguments<'a, R, E> {
+        let count = count(rt);
+        let out = (1..count).find(|&i| is_word(rt, i, b"--out"));
+        Arguments {
+            rt,
+            err,
+            count,
+            out,
+        }
+    }
+
+    // The argument at a place, counted without `--out FILE`.
+    pub fn place(&self, i: usize) -> usize
+        ensures { result ≡ argument_at self.now.out i }
+    {
+        pails::args::place(self.out, i)
+    }
+
+    // The place of FILE.
+    pub fn out_file(&self) -> Option<usize>
+        ensures { result ≡ option_map (λ out. (out + 1) % 2 ^ 64) self.now.out }
+    {
+        self.out.map(|out| out.wrapping_add(1))
+    }
 }

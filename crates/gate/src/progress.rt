@@ -1,29 +1,34 @@
 // How far a long run is, where somebody looks on.
-use crate::say::mutter;
 use std::io::IsTerminal;
-use words::both;
+
+// Where it is shown, if it is, and of how many cycles.
+#[derive(Drop)]
+pub struct Progress<'a, E> {
+    err: &'a E,
+    shown: bool,
+    budget: u32,
+}
 
 // Where standard output is a terminal a trace shows its own progress.
 pub fn is_shown(out: &impl IsTerminal, err: &impl IsTerminal, trace: bool) -> bool {
-    if !err.is_terminal() {
-        return false;
-    }
-    if trace { !out.is_terminal() } else { true }
+    err.is_terminal() && !(trace && out.is_terminal())
 }
 
-// At each 100,000 cycles.
-pub fn show(err: &impl Print, shown: bool, done: u32, budget: u32) {
-    if both(shown, done % 100_000 == 0) {
-        mutter(err, b"\r");
-        let _ = err.print(done);
-        mutter(err, b" of ");
-        let _ = err.print(budget);
-        mutter(err, b" cycles");
+impl<'a, E: Print> Progress<'a, E> {
+    pub fn new(err: &'a E, shown: bool, budget: u32) -> Progress<'a, E> {
+        Progress { err, shown, budget }
     }
-}
 
-pub fn clear(err: &impl Print, shown: bool) {
-    if shown {
-        mutter(err, b"\r                           \r");
+    // At each 100,000 cycles.
+    pub fn show(&self, done: u32) {
+        if self.shown && done % 100_000 == 0 {
+            let _ = print!(self.err; "\r{done} of {} cycles", self.budget);
+        }
+    }
+
+    pub fn clear(&self) {
+        if self.shown {
+            let _ = print!(self.err; "\r                           \r");
+        }
     }
 }

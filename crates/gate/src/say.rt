@@ -1,106 +1,97 @@
 // Text to standard output or standard error, and the status that the command ends with.
 use crate::reason::explain;
-use std::io;
-use std::num::wrapping_add_usize;
+use pails::ran::Refusal;
+use std::fmt::{Display, Formatter, Write};
 use std::process::ExitCode;
+use std::{fmt, io};
 
-pub fn say(to: &impl Print, text: &[u8]) -> io::Result<()> {
-    to.write_all(text)
+// What a program of the command ends with.
+#[derive(Clone, Copy, Debug, PartialEq, Eq)]
+pub enum Status {
+    Done,
+    // or the reader closed the pipe
+    Refused,
+    // bad usage, or a file, the input or the output that failed
+    Bad,
 }
 
-// What the command ends with: 0, 1 for a refusal, 2 for bad usage.
-pub fn end(status: u8) -> ExitCode {
-    ExitCode::from(status % 10)
+impl From<Status> for ExitCode {
+    fn from(status: Status) -> ExitCode {
+        match status {
+            Status::Done => ExitCode::SUCCESS,
+            Status::Refused => ExitCode::FAILURE,
+            Status::Bad => ExitCode::from(2),
+        }
+    }
 }
 
-// Text to standard error, which nobody can be told of that it couldn't be written.
-pub fn mutter(err: &impl Print, text: &[u8]) {
-    let _ = say(err, text);
+// What was wrong is told already; the program ends with `Bad`.
+#[derive(Clone, Copy, Debug, PartialEq, Eq)]
+pub struct Complained;
+
+impl From<Complained> for ExitCode {
+    fn from(_told: Complained) -> ExitCode {
+        Status::Bad.into()
+    }
 }
 
-// What a line of complaint opens with.
-pub fn complain(err: &impl Print, text: &[u8]) {
-    mutter(err, b"glavorint: ");
-    mutter(err, text);
+// A line of complaint. Nobody can be told of one that couldn't be written.
+pub fn complain(err: &impl Print, what: impl Display + Drop) -> Complained {
+    let _ = println!(err; "glavorint: {what}");
+    Complained
 }
 
-// The system's reason for what couldn't be done.
-fn fail(err: &impl Print, what: &[u8], why: io::Error) -> ExitCode {
-    complain(err, b"");
-    explain(err, what, why);
-    end(2)
+// One that ends in a name, which may be no text, and the system's reason.
+pub fn complain_of(err: &impl Print, what: &str, name: &[u8], why: io::Error) -> Complained {
+    let _ = print!(err; "glavorint: {what}");
+    explain(err, name, why);
+    Complained
 }
 
 // The end of a program whose output couldn't be written. Whoever closed the pipe knows; any other failure is said.
 pub fn untold(err: &impl Print, why: io::Error) -> ExitCode {
     if why.kind() == io::ErrorKind::BrokenPipe {
-        end(1)
+        Status::Refused.into()
     } else {
-        fail(err, b"standard output", why)
+        complain_of(err, "", b"standard output", why).into()
     }
 }
 
 // The end of one whose input couldn't be read.
 pub fn unread(err: &impl Print, why: io::Error) -> ExitCode {
-    fail(err, b"standard input", why)
+    complain_of(err, "", b"standard input", why).into()
 }
 
-// Characters as they are typed, the unprintable ones as a question mark, so that a complaint stays one line.
-fn shown(b: u8) -> u8 {
+// At most 40 characters of an argument as they are typed, in quotes.
+#[derive(Clone, Copy)]
+pub struct Quoted<'a>(pub &'a [u8]);
+
+// The unprintable ones are a question mark, so that a complaint stays one line.
+fn shown(b: u8) -> char {
     match b {
-        32..=126 => b,
-        _ => b'?',
+        32..=126 => char::from(b),
+        _ => '?',
     }
 }
 
-// At most 40 characters of an argument, in quotes.
-pub fn quote(err: &impl Print, text: &[u8]) {
-    mutter(err, b"'");
-    let mut i: usize = 0;
-    while i < 40 && i < text.len() {
-        mutter(err, &[shown(text[i])]);
-        i += 1;
+impl Display for Quoted<'_> {
+    fn fmt<W: Write>(&self, f: &mut Formatter<W>) -> fmt::Result {
+        f.write_str("'")?;
+        for &b in self.0.iter().take(40) {
+            f.write_char(shown(b))?;
+        }
+        f.write_str(if self.0.len() > 40 { "..'" } else { "'" })
     }
-    if 40 < text.len() {
-        mutter(err, b"..");
-    }
-    mutter(err, b"' ");
 }
 
 // The line of a packed record's sixteen words.
 pub fn say_record(to: &impl Print, rec: &[u8; 32]) -> io::Result<()> {
-    let words = slip::line::line(rec);
-    say(to, b"record ").and(say(to, &words)).and(say(to, b"\n"))
+    to.write_all(b"record ")?;
+    to.write_all(&slip::line::line(rec))?;
+    to.write_all(b"\n")
 }
 
-// A line of a name and a number.
-pub fn say_number(to: &impl Print, name: &[u8], n: u64) -> io::Result<()> {
-    say(to, name).and(to.print(n)).and(say(to, b"\n"))
-}
-
-// A line of some rows, by its number from 0 on. A match with a text in each arm is what the prover is slowest at.
-pub fn say_row(err: &impl Print, rows: &[u8], k: usize) {
-    let mut row: usize = 0;
-    let mut i: usize = 0;
-    while i < rows.len() {
-        if rows[i] == b'\n' {
-            row = wrapping_add_usize(row, 1);
-        } else if row == k {
-            mutter(err, &[rows[i]]);
-        }
-        i += 1;
-    }
-}
-
-// Document 01's words for each refusal.
-pub fn say_reason(err: &impl Print, refusal: u8) {
-    complain(err, b"refused with ");
-    let _ = err.print(refusal);
-    mutter(err, b": ");
-    say_row(
-        err,
-        b"none\nthe memory isn't 65,536 bytes\nthe budget is above 1,000,000 cycles\nthe text buffer is too short\nthe record isn't well formed\nthe opcode held, or just fetched, isn't listed\nthe held opcode has no such cycle\na request outside bank 0",
-        refusal as usize,
-    );
-    mutter(err, b"\n");
+// Document 01's words for a refusal.
+pub fn say_reason(err: &impl Print, refusal: Refusal) {
+    complain(err, format_args!("refused with {}: {refusal}", refusal.0));
 }

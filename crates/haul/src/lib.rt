@@ -8,11 +8,10 @@ ghost use Rattle.haul.specs.Hauls.{near, between, hauled, carried, hauls, haul_o
 
 use cpu::change::moved;
 use cpu::record::{finished, regs};
-use cpu::registers::choose;
 use cpu::types::Record;
 use stride::stride::stretch_of;
 use stride::types::Stretch;
-use words::{both, down, either, up};
+use words::{both, choose, down, either, up};
 
 // PC, X and Y lie inside the memory: so much is known of words that are handed over, and the law asks for it.
 fn words_inside(pc: u16, x: u16, y: u16)
@@ -20,20 +19,17 @@ fn words_inside(pc: u16, x: u16, y: u16)
 {}
 
 // Whether a move stays in bank 0.
-fn is_near(r: Record, mem: &[u8]) -> bool
-    requires { length mem.now ≡ 65536 }
+fn is_near(r: Record, mem: &[u8; 65536]) -> bool
     ensures { result ≡ near r mem.now }
 {
     both(mem[up(r.pc) as usize] == 0, mem[up(up(r.pc)) as usize] == 0)
 }
 
-fn carry_if(near: bool, x: u16, y: u16, mem: &mut [u8])
-    requires { length mem.old ≡ 65536 }
+fn carry_if(near: bool, x: u16, y: u16, mem: &mut [u8; 65536])
     ensures { mem.new ≡ pick near (set mem.old y (low_of (get_or mem.old x 0))) mem.old }
 {
     if near {
-        let b = mem[x as usize];
-        mem[y as usize] = b;
+        mem[y as usize] = mem[x as usize];
     }
 }
 
@@ -72,8 +68,7 @@ fn haul_to(go: bool, r: Record) -> Stretch
     }
 }
 
-fn haul_in(r: Record, mem: &mut [u8]) -> Stretch
-    requires { length mem.old ≡ 65536 }
+fn haul_in(r: Record, mem: &mut [u8; 65536]) -> Stretch
     ensures { (result ≡ pick (hauls r mem.old) (stretch 7 (hauled (eqb r.ir 0x54) r)) (stretch 0 r)) × (mem.new ≡ pick (hauls r mem.old) (carried r mem.old) mem.old) }
 {
     let go = both(is_between(r), is_near(r, mem));
@@ -87,9 +82,8 @@ pub fn haul(r: Record, mem: &mut [u8]) -> Stretch
     ensures inside { (r.pc < 65536) × (r.x < 65536) × (r.y < 65536) }
 {
     words_inside(r.pc, r.x, r.y);
-    if mem.len() == 65536 {
-        haul_in(r, mem)
-    } else {
-        stretch_of(0, r)
-    }
+    let Some(whole) = mem.as_mut_array::<65536>() else {
+        return stretch_of(0, r);
+    };
+    haul_in(r, whole)
 }

@@ -1,5 +1,7 @@
 -- An entry has one number in the book: no shape and no operation stands twice in its list.
 use Prim.Native.Nat.{ℕ, zero, suc, ◌+◌, ◌*◌, ◌/◌, ◌%◌, ◌≤◌, ◌<◌}
+use Rattle.opcodes.specs.declared.types.Shape.{Shape}
+use Rattle.std.proofs.Common.{Option, Some, None}
 use native.Mathlib.Nat.{le_of_suc-le-suc, not-suc-le-zero}
 use native.Mathlib.Omega.{arith}
 use mathlib.Core.Path.{◌≡◌, refl, sym, ap, ◌∙◌}
@@ -18,8 +20,6 @@ use Rattle.cpu.specs.declared.types.Cond.TheVariants as cond
 use Rattle.opcodes.specs.declared.types.Shape.TheVariants.{Immediate}
 use Rattle.opcodes.specs.declared.types.Operation.{Operation}
 use Rattle.opcodes.specs.declared.types.Operation.TheVariants.{Plain, Read, Give, Take, Do, If, Flag}
-use Rattle.opcodes.specs.declared.types.Op.{Op}
-use Rattle.opcodes.specs.declared.types.Op.TheVariants.{Unlisted, Listed}
 use Rattle.shapes.specs.Shapes.{number_of_shape}
 use Rattle.shapes.proofs.Every.{apart}
 use Rattle.herdbook.specs.Herdbook.{shapes, operations, shape_at, operation_at, entry_at, in_book}
@@ -99,9 +99,9 @@ operation_number (Do one.Txs) = 65
 operation_number (Do one.Xba) = 66
 operation_number (Do one.Xce) = 67
 
-abbrev number_of : Op → ℕ
-number_of Unlisted = 0
-number_of (Listed s o) = number_of_shape s * 256 + operation_number o
+abbrev number_of : Option (Shape × Operation) → ℕ
+number_of None = 0
+number_of (Some (s, o)) = number_of_shape s * 256 + operation_number o
 
 -- each entry of a list has its place's number; behind the first each place is one more than it is in the rest
 abbrev in_order : {A : Type 0} → (number : A → ℕ) → (place : ℕ → ℕ) → List A → Bool
@@ -135,7 +135,7 @@ unfolding entry_at
 kept n = go (eqb n 0) refl
   where
     go : (t : Bool) → eqb n 0 ≡ t → (t || (leb 256 n && (ltb n 7936 && ltb (n % 256) 68))) ≡ true
-        → number_of (pick t Unlisted (Listed (shape_at (n / 256)) (operation_at (n % 256)))) ≡ n
+        → number_of (pick t None (Some (shape_at (n / 256), operation_at (n % 256)))) ≡ n
     go true e h = sym (eqb-true n 0 e)
     go false e h = whole
       where

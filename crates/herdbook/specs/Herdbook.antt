@@ -1,5 +1,5 @@
 -- The list of opcodes by number: a shape's in the high byte, an operation's in the low one.
-use Rattle.std.specs.Prelude.{ℕ, Bool, true, false, ◌&&◌, ◌||◌, List, [], ◌∷◌, eqb, leb, ltb, ◌/◌, ◌%◌, get_or}
+use Rattle.std.specs.Prelude.{ℕ, Bool, true, false, ◌&&◌, ◌||◌, List, [], ◌∷◌, eqb, leb, ltb, ◌/◌, ◌%◌, get_or, Option, Some, None}
 use Rattle.words.specs.Words.{pick}
 use Rattle.alu.specs.declared.types.Alu.TheVariants as alu
 use Rattle.alu.specs.declared.types.Shift.TheVariants as shift
@@ -11,8 +11,6 @@ use Rattle.opcodes.specs.declared.types.Shape.{Shape}
 use Rattle.opcodes.specs.declared.types.Shape.TheVariants as shape
 use Rattle.opcodes.specs.declared.types.Operation.{Operation}
 use Rattle.opcodes.specs.declared.types.Operation.TheVariants.{Plain, Read, Give, Take, Do, If, Flag}
-use Rattle.opcodes.specs.declared.types.Op.{Op}
-use Rattle.opcodes.specs.declared.types.Op.TheVariants.{Unlisted, Listed}
 
 -- by number; the first only fills the place of 0
 unfoldable pub shapes : List Shape
@@ -28,8 +26,8 @@ unfoldable pub operation_at : ℕ → Operation
 operation_at n = get_or operations n Plain
 
 -- the opcode of a number
-unfoldable pub entry_at : ℕ → Op
-entry_at n = pick (eqb n 0) Unlisted (Listed (shape_at (n / 256)) (operation_at (n % 256)))
+unfoldable pub entry_at : ℕ → Option (Shape × Operation)
+entry_at n = pick (eqb n 0) None (Some (shape_at (n / 256), operation_at (n % 256)))
 
 -- the numbers that the two lists have: 30 shapes, the first place left out, and 68 operations; and 0
 abbrev pub in_book : ℕ → Bool

@@ -7,10 +7,12 @@ ghost use Rattle.herdbook.specs.Herdbook.{shape_at, operation_at, entry_at, in_b
 
 use alu::types::{Alu, Shift};
 use cpu::types::{Cond, One, Reg, Source};
-use opcodes::types::{Op, Operation, Shape};
+use opcodes::types::{Operation, Shape};
 
 // An opcode's number: its shape's and, in the low byte, its operation's; 0 for a byte that isn't listed. No shape and no
-// operation stands twice in its list, so it is one number.
+// operation stands twice in its list, so it is one number. Numbers and no enums: with these the loop of cycles had a quarter more
+// instructions, and the proof took three times as long (docs/SPEED.md).
+#[tactic(auto, unfolding(opcodes::specs::Opcodes::decode_of, opcodes::specs::Opcodes::opcodes, opcodes::specs::Opcodes::one_bytes, crate::specs::Herdbook::entry_at, crate::specs::Herdbook::shape_at, crate::specs::Herdbook::shapes, crate::specs::Herdbook::operation_at, crate::specs::Herdbook::operations))]
 fn tag(op: u8) -> u16
     ensures result_value { entry_at result ≡ decode_of op }
     ensures listed { in_book result ≡ true }
@@ -137,6 +139,7 @@ fn tag(op: u8) -> u16
     }
 }
 
+#[tactic(auto, unfolding(crate::specs::Herdbook::shape_at, crate::specs::Herdbook::shapes))]
 fn shape(n: u16) -> Shape
     ensures { result ≡ shape_at n }
 {
@@ -176,6 +179,7 @@ fn shape(n: u16) -> Shape
     }
 }
 
+#[tactic(auto, unfolding(crate::specs::Herdbook::operation_at, crate::specs::Herdbook::operations))]
 fn operation(n: u16) -> Operation
     ensures { result ≡ operation_at n }
 {
@@ -253,13 +257,13 @@ fn operation(n: u16) -> Operation
 }
 
 // What a byte is as an opcode, as `decode` says it. The numbers are constants, so the compiler makes one jump of it all, straight to the shape's cycles.
-pub fn entry(op: u8) -> Op
+pub fn entry(op: u8) -> Option<(Shape, Operation)>
     ensures { result ≡ decode_of op }
 {
     let n = tag(op);
     if n == 0 {
-        Op::Unlisted
+        None
     } else {
-        Op::Listed(shape(n / 256), operation(n % 256))
+        Some((shape(n / 256), operation(n % 256)))
     }
 }

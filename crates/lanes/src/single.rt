@@ -1,85 +1,79 @@
 // Single instructions, through `request` and `answer`.
-use drill::figure::{figure, show};
+use cpu::types::Record;
+use drill::figure::{emulated, figure, native};
 
 // P: M is 20, X 10.
 pub fn long_branch(rt: &impl Print) {
-    show(
+    figure(
         rt,
-        b"BRL at 0000, displacement FFFD",
-        false,
-        0x30,
-        0,
-        0x01FF,
-        0x0000,
+        "BRL at 0000, displacement FFFD",
+        Record {
+            pc: 0x0000,
+            ..native(0x30)
+        },
         b"\x82\xFD\xFF\x00",
     );
 }
 
 pub fn across_a_page(rt: &impl Print) {
-    show(
+    figure(
         rt,
-        b"BRA at 80FD, displacement 01, emulation",
-        true,
-        0x30,
-        0,
-        0x01FF,
-        0x80FD,
+        "BRA at 80FD, displacement 01, emulation",
+        Record {
+            pc: 0x80FD,
+            ..emulated(0x30)
+        },
         b"\x80\x01\x00\x00",
     );
-    show(
+    figure(
         rt,
-        b"BRA at 80FD, displacement 01, native",
-        false,
-        0x30,
-        0,
-        0x01FF,
-        0x80FD,
+        "BRA at 80FD, displacement 01, native",
+        Record {
+            pc: 0x80FD,
+            ..native(0x30)
+        },
         b"\x80\x01\x00",
     );
 }
 
 pub fn inside_a_page(rt: &impl Print) {
-    show(
+    figure(
         rt,
-        b"BRA at 80FC, displacement 01, emulation",
-        true,
-        0x30,
-        0,
-        0x01FF,
-        0x80FC,
+        "BRA at 80FC, displacement 01, emulation",
+        Record {
+            pc: 0x80FC,
+            ..emulated(0x30)
+        },
         b"\x80\x01\x00",
     );
-    show(
+    figure(
         rt,
-        b"BRA at 80FC, displacement 01, native",
-        false,
-        0x30,
-        0,
-        0x01FF,
-        0x80FC,
+        "BRA at 80FC, displacement 01, native",
+        Record {
+            pc: 0x80FC,
+            ..native(0x30)
+        },
         b"\x80\x01\x00",
     );
 }
 
 pub fn returns(rt: &impl Print) {
-    show(
+    figure(
         rt,
-        b"RTL, emulation, S 01FE",
-        true,
-        0x30,
-        0,
-        0x01FE,
-        0x8000,
+        "RTL, emulation, S 01FE",
+        Record {
+            s: 0x01FE,
+            ..emulated(0x30)
+        },
         b"\x6B\x00\x00\x34\x12\x00",
     );
-    show(
+    figure(
         rt,
-        b"RTS, emulation, S 01FE",
-        true,
-        0x30,
-        0,
-        0x01FE,
-        0x8000,
+        "RTS, emulation, S 01FE",
+        Record {
+            s: 0x01FE,
+            ..emulated(0x30)
+        },
         b"\x60\x00\x00\x34\x12\x00",
     );
 }
@@ -87,51 +81,34 @@ pub fn returns(rt: &impl Print) {
 pub fn addresses(rt: &impl Print) {
     figure(
         rt,
-        b"LDA absolute 16 bit, DBR 01, FFFF",
-        packed::bytes::start(0, 0, 0, 0x01FF, 0, 0x8000, 0, 1, 0x00, false),
+        "LDA absolute 16 bit, DBR 01, FFFF",
+        Record {
+            dbr: 1,
+            ..native(0x00)
+        },
         b"\xAD\xFF\xFF\x78\x56",
     );
-    show(
+    figure(
         rt,
-        b"BIT immediate C0, A 3F, 8 bit, N and V set",
-        false,
-        0xF0,
-        0x003F,
-        0x01FF,
-        0x8000,
+        "BIT immediate C0, A 3F, 8 bit, N and V set",
+        Record {
+            a: 0x003F,
+            ..native(0xF0)
+        },
         b"\x89\xC0",
     );
-    show(
-        rt,
-        b"JMP (FFFF)",
-        false,
-        0x30,
-        0,
-        0x01FF,
-        0x8000,
-        b"\x6C\xFF\xFF\x34\x12",
-    );
+    figure(rt, "JMP (FFFF)", native(0x30), b"\x6C\xFF\xFF\x34\x12");
 }
 
 pub fn refused(rt: &impl Print) {
-    show(
+    figure(rt, "an opcode that isn't listed", native(0x30), b"\x00");
+    figure(
         rt,
-        b"an opcode that isn't listed",
-        false,
-        0x30,
-        0,
-        0x01FF,
-        0x8000,
-        b"\x00",
-    );
-    show(
-        rt,
-        b"a record that isn't well formed: emulation, S 0200",
-        true,
-        0x30,
-        0,
-        0x0200,
-        0x8000,
+        "a record that isn't well formed: emulation, S 0200",
+        Record {
+            s: 0x0200,
+            ..emulated(0x30)
+        },
         b"\xEA",
     );
 }

@@ -4,98 +4,106 @@
 //
 // The ten words of a state take 40 characters; a cycle takes 10, or 9 where it is left open.
 ghost use Rattle.std.specs.Prelude.{◌≡◌};
-ghost use Rattle.lines.specs.Form.{belongs, run_end, run_of, mode_end, id_end, kinds_end, source_end, is_spaced, are_words, is_parted, are_bytes, is_bit, is_state, is_kind, is_open, is_cycle, cycle_end, no_span, span_of, cycles_read, read_of};
+ghost use Rattle.lines.specs.Form.{belongs, run_end, run_of, mode_end, id_end, kinds_end, source_end, is_spaced, are_words, is_parted, are_bytes, is_bit, is_state, is_kind, is_open, is_cycle, cycle_end, span_of, cycles_read, read_of};
 
 use crate::text::{byte_at, is_at, is_byte, is_word, past, same};
-use crate::types::{Fault, Line, Places, Span};
+use crate::types::{Fault, Places, Span};
 use words::{both, either};
 
 // Whether a character is one from `low` to `high`.
+#[tactic(auto, unfolding(crate::specs::Form::belongs))]
 fn belongs(low: u8, high: u8, b: u8) -> bool
     ensures { result ≡ belongs low high b }
 {
     both(low <= b, b <= high)
 }
 
-// Where a run of such characters ends. No line is longer than the steps that are counted down.
+// Where a run of such characters ends. No line is longer than the steps that are counted.
 fn run_end(text: &[u8], at: usize, low: u8, high: u8) -> usize
     ensures { result ≡ run_end 1024 text.now at low high }
 {
     let mut end = at;
-    let mut left: usize = 1024;
-    while left > 0 {
+    for _step in 0..1024usize {
         if !belongs(low, high, byte_at(text, end)) {
             return end;
         }
         end = past(end, 1);
-        left -= 1;
     }
     end
 }
 
-// Fields' ends are 0 from here on where a field isn't as it should be: no field ends there.
-fn run_of(text: &[u8], at: usize, low: u8, high: u8) -> usize
+// From here on where a field ends, if it is as it should be. At least one such character is.
+#[tactic(auto, unfolding(crate::specs::Form::run_of))]
+fn run_of(text: &[u8], at: usize, low: u8, high: u8) -> Option<usize>
     ensures { result ≡ run_of text.now at low high }
 {
     let end = run_end(text, at, low, high);
-    if end == at { 0 } else { end }
+    if end == at { None } else { Some(end) }
 }
 
 // E, or the two widths, capital where they are 8 bits.
-fn mode_end(text: &[u8], at: usize) -> usize
+#[tactic(auto, unfolding(crate::specs::Form::mode_end))]
+fn mode_end(text: &[u8], at: usize) -> Option<usize>
     ensures { result ≡ mode_end text.now at }
 {
     if is_at(text, at, b'E') {
-        return past(at, 1);
+        return Some(past(at, 1));
     }
     let next = past(at, 1);
     let m = either(is_at(text, at, b'M'), is_at(text, at, b'm'));
     let x = either(is_at(text, next, b'X'), is_at(text, next, b'x'));
-    if both(m, x) { past(at, 2) } else { 0 }
+    if both(m, x) { Some(past(at, 2)) } else { None }
 }
 
 // opcode.mode.number
-fn id_end(text: &[u8]) -> usize
+#[tactic(auto, unfolding(crate::specs::Form::id_end))]
+fn id_end(text: &[u8]) -> Option<usize>
     ensures { result ≡ id_end text.now }
 {
-    let opcode = both(is_byte(text, 0), is_at(text, 2, b'.'));
-    let mode = mode_end(text, 3);
-    if both(opcode, is_at(text, mode, b'.')) {
+    if !both(is_byte(text, 0), is_at(text, 2, b'.')) {
+        return None;
+    }
+    let mode = mode_end(text, 3)?;
+    if is_at(text, mode, b'.') {
         run_of(text, past(mode, 1), b'0', b'9')
     } else {
-        0
+        None
     }
 }
 
 // Those who name kinds, or `-`.
-fn kinds_end(text: &[u8], at: usize) -> usize
+#[tactic(auto, unfolding(crate::specs::Form::kinds_end))]
+fn kinds_end(text: &[u8], at: usize) -> Option<usize>
     ensures { result ≡ kinds_end text.now at }
 {
     if is_at(text, at, b'-') {
-        past(at, 1)
+        Some(past(at, 1))
     } else {
         run_of(text, at, b'a', b'z')
     }
 }
 
 // Those who agree, a slash, and those of them who name kinds.
-fn source_end(text: &[u8], at: usize) -> usize
+#[tactic(auto, unfolding(crate::specs::Form::source_end))]
+fn source_end(text: &[u8], at: usize) -> Option<usize>
     ensures { result ≡ source_end text.now at }
 {
-    let slash = run_of(text, at, b'a', b'z');
+    let slash = run_of(text, at, b'a', b'z')?;
     if is_at(text, slash, b'/') {
         kinds_end(text, past(slash, 1))
     } else {
-        0
+        None
     }
 }
 
+#[tactic(auto, unfolding(crate::specs::Form::is_spaced))]
 fn is_spaced(text: &[u8], at: usize) -> bool
     ensures { result ≡ is_spaced text.now at }
 {
     both(is_word(text, at), is_at(text, past(at, 4), b' '))
 }
 
+#[tactic(auto, unfolding(crate::specs::Form::are_words))]
 fn are_words(text: &[u8], at: usize) -> bool
     ensures { result ≡ are_words text.now at }
 {
@@ -103,12 +111,14 @@ fn are_words(text: &[u8], at: usize) -> bool
     both(two, is_spaced(text, past(at, 10)))
 }
 
+#[tactic(auto, unfolding(crate::specs::Form::is_parted))]
 fn is_parted(text: &[u8], at: usize) -> bool
     ensures { result ≡ is_parted text.now at }
 {
     both(is_byte(text, at), is_at(text, past(at, 2), b' '))
 }
 
+#[tactic(auto, unfolding(crate::specs::Form::are_bytes))]
 fn are_bytes(text: &[u8], at: usize) -> bool
     ensures { result ≡ are_bytes text.now at }
 {
@@ -116,6 +126,7 @@ fn are_bytes(text: &[u8], at: usize) -> bool
     both(two, is_parted(text, past(at, 6)))
 }
 
+#[tactic(auto, unfolding(crate::specs::Form::is_bit))]
 fn is_bit(text: &[u8], at: usize) -> bool
     ensures { result ≡ is_bit text.now at }
 {
@@ -123,6 +134,7 @@ fn is_bit(text: &[u8], at: usize) -> bool
 }
 
 // A X Y S D PC, PBR DBR P, E.
+#[tactic(auto, unfolding(crate::specs::Form::is_state))]
 fn is_state(text: &[u8], at: usize) -> bool
     ensures { result ≡ is_state text.now at }
 {
@@ -131,6 +143,7 @@ fn is_state(text: &[u8], at: usize) -> bool
     both(words, rest)
 }
 
+#[tactic(auto, unfolding(crate::specs::Form::is_kind))]
 fn is_kind(b: u8) -> bool
     ensures { result ≡ is_kind b }
 {
@@ -140,6 +153,7 @@ fn is_kind(b: u8) -> bool
 }
 
 // Whether an internal cycle whose address is left open stands at a place.
+#[tactic(auto, unfolding(crate::specs::Form::is_open))]
 pub fn is_open(text: &[u8], at: usize) -> bool
     ensures { result ≡ is_open text.now at }
 {
@@ -147,6 +161,7 @@ pub fn is_open(text: &[u8], at: usize) -> bool
 }
 
 // Kind, direction, address and byte, with no blanks.
+#[tactic(auto, unfolding(crate::specs::Form::is_cycle))]
 fn is_cycle(text: &[u8], at: usize) -> bool
     ensures { result ≡ is_cycle text.now at }
 {
@@ -157,88 +172,85 @@ fn is_cycle(text: &[u8], at: usize) -> bool
     both(marks, figures)
 }
 
-// Where the cycle at a place ends; 0 where none stands there.
-pub fn cycle_end(text: &[u8], at: usize) -> usize
+// Where the cycle at a place ends, if one stands there.
+#[tactic(auto, unfolding(crate::specs::Form::cycle_end))]
+pub fn cycle_end(text: &[u8], at: usize) -> Option<usize>
     ensures { result ≡ cycle_end text.now at }
 {
     if is_open(text, at) {
-        return past(at, 9);
+        return Some(past(at, 9));
     }
-    if is_cycle(text, at) { past(at, 10) } else { 0 }
-}
-
-fn no_span() -> Span
-    ensures { result ≡ no_span }
-{
-    Span { end: 0, count: 0 }
+    if is_cycle(text, at) {
+        Some(past(at, 10))
+    } else {
+        None
+    }
 }
 
 // No line has room for 128 cycles.
-fn span_of(text: &[u8], at: usize) -> Span
+fn span_of(text: &[u8], at: usize) -> Option<Span>
     ensures { result ≡ span_of 128 text.now at 0 }
 {
     let mut from = at;
-    let mut count: usize = 0;
-    while count < 128 {
-        let end = cycle_end(text, from);
-        if end == 0 {
-            return no_span();
-        }
-        count += 1;
+    for count in 0..128 {
+        let end = cycle_end(text, from)?;
         if !is_at(text, end, b';') {
-            return Span {
-                end: end,
-                count: count,
-            };
+            return Some(Span {
+                end,
+                count: count + 1,
+            });
         }
         from = past(end, 1);
     }
-    no_span()
+    None
 }
 
 // From the cycles on.
-fn read_cycles(text: &[u8], id: usize, start: usize) -> Line
+#[tactic(auto, unfolding(crate::specs::Form::after_read))]
+fn read_cycles(text: &[u8], id: usize, start: usize) -> Result<Places, Fault>
     ensures { result ≡ cycles_read text.now id start }
 {
     let cycles = past(start, 41);
-    let span = span_of(text, cycles);
-    if !is_at(text, span.end, b' ') {
-        return Line::Malformed(Fault::Cycles);
+    let Span { end, count } = span_of(text, cycles).unwrap_or(Span { end: 0, count: 0 });
+    if !is_at(text, end, b' ') {
+        return Err(Fault::Cycles);
     }
-    let after = past(span.end, 1);
+    let after = past(end, 1);
     if !is_state(text, after) {
-        return Line::Malformed(Fault::After);
+        return Err(Fault::After);
     }
     if past(after, 40) != text.len() {
-        return Line::Malformed(Fault::Extra);
+        return Err(Fault::Extra);
     }
-    Line::Case(Places {
-        id: id,
-        start: start,
-        cycles: cycles,
-        count: span.count,
-        after: after,
+    Ok(Places {
+        id,
+        start,
+        cycles,
+        count,
+        after,
     })
 }
 
 // The places of a line's fields, or the first that isn't as it should be. `longest` characters are allowed.
-pub fn read(text: &[u8], longest: usize) -> Line
+// A field that ends nowhere is read on from 0: a line that begins with a blank is read as one without an id, as `read_of` has it.
+#[tactic(auto, unfolding(crate::specs::Form::read_of))]
+pub fn read(text: &[u8], longest: usize) -> Result<Places, Fault>
     ensures { result ≡ read_of text.now longest }
 {
     if longest < text.len() {
-        return Line::Malformed(Fault::Length);
+        return Err(Fault::Length);
     }
-    let id = id_end(text);
+    let id = id_end(text).unwrap_or(0);
     if !is_at(text, id, b' ') {
-        return Line::Malformed(Fault::Id);
+        return Err(Fault::Id);
     }
-    let source = source_end(text, past(id, 1));
+    let source = source_end(text, past(id, 1)).unwrap_or(0);
     if !is_at(text, source, b' ') {
-        return Line::Malformed(Fault::Source);
+        return Err(Fault::Source);
     }
     let start = past(source, 1);
     if !both(is_state(text, start), is_at(text, past(start, 40), b' ')) {
-        return Line::Malformed(Fault::Start);
+        return Err(Fault::Start);
     }
     read_cycles(text, id, start)
 }

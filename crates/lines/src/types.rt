@@ -22,13 +22,7 @@ pub struct Places {
     pub after: usize,
 }
 
-#[derive(Clone, Copy)]
-pub enum Line {
-    Case(Places),
-    Malformed(Fault),
-}
-
-// Where the cycles end, and how many they are; an end of 0 where they aren't as they should be.
+// Where the cycles end, and how many they are.
 #[derive(Clone, Copy)]
 pub struct Span {
     pub end: usize,

@@ -3,9 +3,73 @@
 
 ghost use Rattle.std.specs.Prelude.{◌<◌};
 
+// How many deliveries a program has.
+pub const COUNT: u16 = 16384;
+
+const CLC: u8 = 0x18;
+
+const SEC: u8 = 0x38;
+
+const ADC: u8 = 0x69;
+
+const SBC: u8 = 0xE9;
+
+// How wide the accumulator is: two decimal digits, or four.
+#[derive(Clone, Copy)]
+pub enum Width {
+    Byte,
+    Word,
+}
+
+impl Width {
+    // A delivery's bytes.
+    fn size(self) -> u16
+        ensures { result < 5 }
+    {
+        match self {
+            Width::Byte => 3,
+            Width::Word => 4,
+        }
+    }
+
+    // A delivery's cycles.
+    pub fn cycles(self) -> u32
+        ensures { result < 6 }
+    {
+        match self {
+            Width::Byte => 4,
+            Width::Word => 5,
+        }
+    }
+
+    // The first number that has no digits.
+    pub fn modulus(self) -> u64
+        ensures { result < 10001 }
+    {
+        match self {
+            Width::Byte => 100,
+            Width::Word => 10000,
+        }
+    }
+
+    // The number of the digits that a word has at this width.
+    pub fn number(self, w: u16) -> u64 {
+        let [low, high] = w.to_le_bytes();
+        match self {
+            Width::Byte => value(low),
+            Width::Word => value(low) + 100 * value(high),
+        }
+    }
+
+    // Where delivery i stands.
+    pub fn place(self, i: u16) -> u16 {
+        i % COUNT * self.size()
+    }
+}
+
 // Knuth's line of random numbers for 32 bits.
 fn next(seed: u32) -> u32 {
-    (((seed as u64) * 1664525 + 1013904223) % 4294967296) as u32
+    seed.wrapping_mul(1664525).wrapping_add(1013904223)
 }
 
 // Two random decimal digits.
@@ -22,55 +86,45 @@ pub fn value(b: u8) -> u64
 }
 
 // CLC, ADC # or SEC, SBC #, by a bit of the seed.
-fn carry_op(seed: u32) -> u8 {
-    if seed / 16777216 % 2 == 0 { 0x18 } else { 0x38 }
-}
-
-fn sum_op(seed: u32) -> u8 {
-    if seed / 16777216 % 2 == 0 { 0x69 } else { 0xE9 }
-}
-
-fn put(mem: &mut [u8; 65536], at: usize, b: u8) {
-    if at < 65536 {
-        mem[at] = b;
-    }
-}
-
-pub fn get(mem: &[u8; 65536], at: usize) -> u8 {
-    if at < 65536 { mem[at] } else { 0 }
-}
-
-// Where delivery i stands: three bytes each, or four.
-pub fn place(wide: bool, i: usize) -> usize {
-    if wide { i % 16384 * 4 } else { i % 16384 * 3 }
-}
-
-fn put_delivery(mem: &mut [u8; 65536], wide: bool, at: usize, s: u32) {
-    put(mem, at, carry_op(s));
-    put(mem, at % 65536 + 1, sum_op(s));
-    put(mem, at % 65536 + 2, pair(s));
-    if wide {
-        put(mem, at % 65536 + 3, pair(next(s)));
+fn put_delivery(mem: &mut [u8; 65536], width: Width, at: u16, seed: u32) {
+    let ops = if seed / 16777216 % 2 == 0 {
+        [CLC, ADC]
+    } else {
+        [SEC, SBC]
+    };
+    let [carry, sum] = ops;
+    mem[at as usize] = carry;
+    mem[at.wrapping_add(1) as usize] = sum;
+    mem[at.wrapping_add(2) as usize] = pair(seed);
+    if let Width::Word = width {
+        mem[at.wrapping_add(3) as usize] = pair(next(seed));
     }
 }
 
 // The program, from 0000 on.
-pub fn fill(mem: &mut [u8; 65536], wide: bool, seed: u32) {
+pub fn fill(mem: &mut [u8; 65536], width: Width, seed: u32) {
     let mut s = seed;
-    let mut i: usize = 0;
-    while i < 16384 {
+    for i in 0..COUNT {
         s = next(s);
-        put_delivery(mem, wide, place(wide, i), s);
-        i += 1;
+        put_delivery(mem, width, width.place(i), s);
     }
 }
 
-// A delivery's operand, as a decimal number.
-pub fn amount(mem: &[u8; 65536], wide: bool, at: usize) -> u64 {
-    let low = value(get(mem, at % 65536 + 2));
-    if wide {
-        low + 100 * value(get(mem, at % 65536 + 3))
+// What a delivery does to the accumulator.
+#[derive(Clone, Copy)]
+pub enum Delivery {
+    Add(u64),
+    Take(u64),
+}
+
+// The delivery at an address.
+pub fn delivery_at(mem: &[u8; 65536], width: Width, at: u16) -> Delivery {
+    let low = mem[at.wrapping_add(2) as usize];
+    let high = mem[at.wrapping_add(3) as usize];
+    let n = width.number(u16::from_le_bytes([low, high]));
+    if mem[at as usize] == CLC {
+        Delivery::Add(n)
     } else {
-        low
+        Delivery::Take(n)
     }
 }

@@ -2,4 +2,3 @@
 #![tactic(auto)]
 
 pub mod turn;
-pub mod types;

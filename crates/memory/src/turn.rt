@@ -1,13 +1,11 @@
 // The byte is known, and the answer, before anything is stored: a refused cycle leaves the memory as it was.
 ghost use Rattle.std.specs.Prelude.{◌≡◌, ◌<◌, length};
 ghost use Rattle.cycles.specs.declared.types.Micro.TheVariants.{Fetch, Held};
-ghost use Rattle.memory.specs.Turns.{bus_byte, crossed, refusal_of, store_line, stopped_by, store_of, turn_by};
+ghost use Rattle.memory.specs.Turns.{bus_byte, crossed, refusal_of, store_line, store_of, turn_by};
 
-use crate::types::Turn;
 use act::arrive::act;
 use bus::{ask, code, read};
-use cpu::record::number;
-use cpu::types::{Answer, Kind, Record, Refusal, Request};
+use cpu::types::{Kind, Record, Refusal, Request};
 use cycles::types::{Ask, Change, Micro, Move, To};
 use opcodes::types::Operation;
 use step::begin;
@@ -37,12 +35,12 @@ fn line(q: Request, byte: u8) -> Request
     }
 }
 
-fn refusal(a: Answer) -> Refusal
+fn refusal(a: Result<Record, Refusal>) -> Refusal
     ensures { result ≡ refusal_of a }
 {
     match a {
-        Answer::Next(_) => Refusal::NoCycle,
-        Answer::Refused(n) => n,
+        Ok(_) => Refusal::NoCycle,
+        Err(n) => n,
     }
 }
 
@@ -56,52 +54,50 @@ fn store(l: Request, mem: &mut [u8])
 }
 
 // The cycle that fetches an opcode.
-fn fetch(r: Record, mem: &[u8]) -> Turn
+fn fetch(r: Record, mem: &[u8]) -> Result<(Request, Record), Refusal>
     ensures { result ≡ turn_by Fetch r mem.now }
 {
     let p = code(r);
     if mem.len() <= p as usize {
-        return Turn::Stop(Refusal::Bank);
+        return Err(Refusal::Bank);
     }
     let byte = mem[p as usize];
     let answer = begin(r, byte);
-    let Answer::Next(next) = answer else {
-        return Turn::Stop(refusal(answer));
+    let Ok(next) = answer else {
+        return Err(refusal(answer));
     };
-    Turn::Done(line(read(Kind::Opcode, p), byte), next)
+    Ok((line(read(Kind::Opcode, p), byte), next))
 }
 
 // The cycle of a held opcode. What it does is handed over in its parts, which the compiler then keeps apart.
-fn carry_out(q: Ask, k: Move, c: Change, d: To, o: Operation, r: Record, mem: &mut [u8]) -> Turn
+fn carry_out(
+    q: Ask,
+    k: Move,
+    c: Change,
+    d: To,
+    o: Operation,
+    r: Record,
+    mem: &mut [u8],
+) -> Result<(Request, Record), Refusal>
     ensures { (result ≡ turn_by (Held q k c d o) r mem.old) × (mem.new ≡ store_of result mem.old) }
 {
     let asked = ask(q, o, r);
     if mem.len() <= asked.addr as usize {
-        return Turn::Stop(Refusal::Bank);
+        return Err(Refusal::Bank);
     }
     let l = line(asked, bus_byte(asked, mem));
     let next = act(k, c, d, o, r, l.byte);
     store(l, mem);
-    Turn::Done(l, next)
+    Ok((l, next))
 }
 
 // One cycle of what `m` says; 7 where it asks outside the memory. Runs lend 65,536 bytes, which stand for bank 0.
-pub fn turn(m: Micro, r: Record, mem: &mut [u8]) -> Turn
+pub fn turn(m: Micro, r: Record, mem: &mut [u8]) -> Result<(Request, Record), Refusal>
     ensures { (result ≡ turn_by m r mem.old) × (mem.new ≡ store_of result mem.old) }
 {
     match m {
-        Micro::Refuse(n) => Turn::Stop(n),
+        Micro::Refuse(n) => Err(n),
         Micro::Fetch => fetch(r, mem),
         Micro::Held(q, k, c, d, o) => carry_out(q, k, c, d, o, r, mem),
-    }
-}
-
-// Document 01's number of a turn: 0, or its refusal's.
-pub fn refused_by(t: Turn) -> u8
-    ensures { result ≡ stopped_by t }
-{
-    match t {
-        Turn::Done(_, _) => 0,
-        Turn::Stop(n) => number(n),
     }
 }

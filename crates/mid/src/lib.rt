@@ -10,62 +10,36 @@ ghost use Rattle.mid.specs.Mid.{set_pc, set_s, set_dbr, set_addr, set_data, set_
 
 use cpu::change::stack_of;
 use cpu::record::{mid, regs, stack_pop, stack_push};
-use cpu::registers::choose;
 use cpu::types::{Mid, Record, Stack};
 use cycles::types::Move;
 use opcodes::operation::one_in;
 use opcodes::types::Operation;
-use words::{add, add_signed, down, low, up, with_high, with_low};
+use words::{add, add_signed, choose, down, low, up, with_high, with_low};
 
 fn with_pc(pc: u16, t: Mid) -> Mid
     ensures { result ≡ set_pc pc t }
 {
-    Mid {
-        pc: pc,
-        s: t.s,
-        dbr: t.dbr,
-        tempaddr: t.tempaddr,
-        tempdata: t.tempdata,
-        tempbank: t.tempbank,
-    }
+    Mid { pc, ..t }
 }
 
 fn with_s(s: u16, t: Mid) -> Mid
     ensures { result ≡ set_s s t }
 {
-    Mid {
-        pc: t.pc,
-        s: s,
-        dbr: t.dbr,
-        tempaddr: t.tempaddr,
-        tempdata: t.tempdata,
-        tempbank: t.tempbank,
-    }
+    Mid { s, ..t }
 }
 
 fn with_dbr(dbr: u8, t: Mid) -> Mid
     ensures { result ≡ set_dbr dbr t }
 {
-    Mid {
-        pc: t.pc,
-        s: t.s,
-        dbr: dbr,
-        tempaddr: t.tempaddr,
-        tempdata: t.tempdata,
-        tempbank: t.tempbank,
-    }
+    Mid { dbr, ..t }
 }
 
 fn with_addr(addr: u16, t: Mid) -> Mid
     ensures { result ≡ set_addr addr t }
 {
     Mid {
-        pc: t.pc,
-        s: t.s,
-        dbr: t.dbr,
         tempaddr: addr,
-        tempdata: t.tempdata,
-        tempbank: t.tempbank,
+        ..t
     }
 }
 
@@ -73,12 +47,8 @@ fn with_data(value: u16, t: Mid) -> Mid
     ensures { result ≡ set_data value t }
 {
     Mid {
-        pc: t.pc,
-        s: t.s,
-        dbr: t.dbr,
-        tempaddr: t.tempaddr,
         tempdata: value,
-        tempbank: t.tempbank,
+        ..t
     }
 }
 
@@ -86,12 +56,8 @@ fn with_bank(bank: u8, t: Mid) -> Mid
     ensures { result ≡ set_bank bank t }
 {
     Mid {
-        pc: t.pc,
-        s: t.s,
-        dbr: t.dbr,
-        tempaddr: t.tempaddr,
-        tempdata: t.tempdata,
         tempbank: bank,
+        ..t
     }
 }
 
@@ -127,15 +93,13 @@ fn move_pc(r: Record) -> u16
 fn pull(k: Stack, r: Record) -> Mid
     ensures { result ≡ set_s (pulled k r.flags.emulation r.s) (mid_of r) }
 {
-    let f = r.flags;
-    with_s(stack_pop(k, f.emulation, r.s), mid(r))
+    with_s(stack_pop(k, r.flags.emulation, r.s), mid(r))
 }
 
 fn push_paged(r: Record) -> Mid
     ensures { result ≡ set_s (pushed r.flags.emulation r.s) (mid_of r) }
 {
-    let f = r.flags;
-    with_s(stack_push(f.emulation, r.s), mid(r))
+    with_s(stack_push(r.flags.emulation, r.s), mid(r))
 }
 
 fn push_raw(r: Record) -> Mid

@@ -1,5 +1,6 @@
 -- The opcode list of document 01.
-use Rattle.std.specs.Prelude.{ℕ, Bool, true, false, List, [], ◌∷◌, map, eqb}
+use Rattle.std.specs.Prelude.{ℕ, Bool, true, false, List, [], ◌∷◌, map, eqb, Option, Some, None}
+use Rattle.opcodes.specs.declared.types.Shape.{Shape}
 use Rattle.words.specs.Words.{pick}
 use Rattle.cpu.specs.Registers.{wide_reg}
 use Rattle.cpu.specs.Record.{wide_source}
@@ -15,8 +16,6 @@ use Rattle.cpu.specs.declared.types.One.{One}
 use Rattle.cpu.specs.declared.types.One.TheVariants as one
 use Rattle.cpu.specs.declared.types.Cond.{Cond}
 use Rattle.cpu.specs.declared.types.Cond.TheVariants as if
-use Rattle.opcodes.specs.declared.types.Op.{Op}
-use Rattle.opcodes.specs.declared.types.Op.TheVariants.{Unlisted, Listed}
 use Rattle.opcodes.specs.declared.types.Operation.{Operation}
 use Rattle.opcodes.specs.declared.types.Operation.TheVariants.{Plain, Read, Give, Take, Do, If, Flag}
 use Rattle.opcodes.specs.declared.types.Shape.TheVariants.{Immediate, Absolute, Direct, StoreAbsolute, StoreDirect, Implied, Xba, Mask, Wdm, Push, Pull, PullP, PullB, PullD, Pea, Pei, Per, Jump, JumpLong, JumpIndirect, JumpIndirectLong, JumpIndexed, Call, CallIndexed, CallLong, Return, ReturnLong, Branch, BranchLong, Move}
@@ -45,58 +44,62 @@ one_bytes =
     on 0x1B one.Tcs ∷ on 0x7B one.Tdc ∷ on 0x3B one.Tsc ∷ on 0xE8 (one.Index X true) ∷
     on 0xC8 (one.Index Y true) ∷ on 0xCA (one.Index X false) ∷ on 0x88 (one.Index Y false) ∷ []
 
-abbrev pub implied : Row One → Row Op
-implied r = on r.code (Listed Implied (Do r.is))
+-- a listed opcode: its shape, and the operation that the cycles carry out
+abbrev pub listed : Shape → Operation → Option (Shape × Operation)
+listed s o = Some (s, o)
 
-unfoldable pub opcodes : List (Row Op)
+abbrev pub implied : Row One → Row (Option (Shape × Operation))
+implied r = on r.code (listed Implied (Do r.is))
+
+unfoldable pub opcodes : List (Row (Option (Shape × Operation)))
 opcodes =
     -- immediate, absolute, direct
-    on 0x69 (Listed Immediate (Read Adc A)) ∷ on 0x6D (Listed Absolute (Read Adc A)) ∷ on 0x65 (Listed Direct (Read Adc A)) ∷
-    on 0xE9 (Listed Immediate (Read Sbc A)) ∷ on 0xED (Listed Absolute (Read Sbc A)) ∷ on 0xE5 (Listed Direct (Read Sbc A)) ∷
-    on 0xC9 (Listed Immediate (Read Cmp A)) ∷ on 0xCD (Listed Absolute (Read Cmp A)) ∷ on 0xC5 (Listed Direct (Read Cmp A)) ∷
-    on 0x29 (Listed Immediate (Read And A)) ∷ on 0x2D (Listed Absolute (Read And A)) ∷ on 0x25 (Listed Direct (Read And A)) ∷
-    on 0x09 (Listed Immediate (Read Ora A)) ∷ on 0x0D (Listed Absolute (Read Ora A)) ∷ on 0x05 (Listed Direct (Read Ora A)) ∷
-    on 0x49 (Listed Immediate (Read Eor A)) ∷ on 0x4D (Listed Absolute (Read Eor A)) ∷ on 0x45 (Listed Direct (Read Eor A)) ∷
-    on 0x89 (Listed Immediate (Read BitImmediate A)) ∷ on 0x2C (Listed Absolute (Read Bit A)) ∷ on 0x24 (Listed Direct (Read Bit A)) ∷
-    on 0xA9 (Listed Immediate (Read Load A)) ∷ on 0xAD (Listed Absolute (Read Load A)) ∷ on 0xA5 (Listed Direct (Read Load A)) ∷
-    on 0xA2 (Listed Immediate (Read Load X)) ∷ on 0xAE (Listed Absolute (Read Load X)) ∷ on 0xA6 (Listed Direct (Read Load X)) ∷
-    on 0xA0 (Listed Immediate (Read Load Y)) ∷ on 0xAC (Listed Absolute (Read Load Y)) ∷ on 0xA4 (Listed Direct (Read Load Y)) ∷
-    on 0xE0 (Listed Immediate (Read Cmp X)) ∷ on 0xEC (Listed Absolute (Read Cmp X)) ∷ on 0xE4 (Listed Direct (Read Cmp X)) ∷
-    on 0xC0 (Listed Immediate (Read Cmp Y)) ∷ on 0xCC (Listed Absolute (Read Cmp Y)) ∷ on 0xC4 (Listed Direct (Read Cmp Y)) ∷
+    on 0x69 (listed Immediate (Read Adc A)) ∷ on 0x6D (listed Absolute (Read Adc A)) ∷ on 0x65 (listed Direct (Read Adc A)) ∷
+    on 0xE9 (listed Immediate (Read Sbc A)) ∷ on 0xED (listed Absolute (Read Sbc A)) ∷ on 0xE5 (listed Direct (Read Sbc A)) ∷
+    on 0xC9 (listed Immediate (Read Cmp A)) ∷ on 0xCD (listed Absolute (Read Cmp A)) ∷ on 0xC5 (listed Direct (Read Cmp A)) ∷
+    on 0x29 (listed Immediate (Read And A)) ∷ on 0x2D (listed Absolute (Read And A)) ∷ on 0x25 (listed Direct (Read And A)) ∷
+    on 0x09 (listed Immediate (Read Ora A)) ∷ on 0x0D (listed Absolute (Read Ora A)) ∷ on 0x05 (listed Direct (Read Ora A)) ∷
+    on 0x49 (listed Immediate (Read Eor A)) ∷ on 0x4D (listed Absolute (Read Eor A)) ∷ on 0x45 (listed Direct (Read Eor A)) ∷
+    on 0x89 (listed Immediate (Read BitImmediate A)) ∷ on 0x2C (listed Absolute (Read Bit A)) ∷ on 0x24 (listed Direct (Read Bit A)) ∷
+    on 0xA9 (listed Immediate (Read Load A)) ∷ on 0xAD (listed Absolute (Read Load A)) ∷ on 0xA5 (listed Direct (Read Load A)) ∷
+    on 0xA2 (listed Immediate (Read Load X)) ∷ on 0xAE (listed Absolute (Read Load X)) ∷ on 0xA6 (listed Direct (Read Load X)) ∷
+    on 0xA0 (listed Immediate (Read Load Y)) ∷ on 0xAC (listed Absolute (Read Load Y)) ∷ on 0xA4 (listed Direct (Read Load Y)) ∷
+    on 0xE0 (listed Immediate (Read Cmp X)) ∷ on 0xEC (listed Absolute (Read Cmp X)) ∷ on 0xE4 (listed Direct (Read Cmp X)) ∷
+    on 0xC0 (listed Immediate (Read Cmp Y)) ∷ on 0xCC (listed Absolute (Read Cmp Y)) ∷ on 0xC4 (listed Direct (Read Cmp Y)) ∷
     -- absolute, direct
-    on 0x8D (Listed StoreAbsolute (Give (Register A))) ∷ on 0x85 (Listed StoreDirect (Give (Register A))) ∷
-    on 0x8E (Listed StoreAbsolute (Give (Register X))) ∷ on 0x86 (Listed StoreDirect (Give (Register X))) ∷
-    on 0x8C (Listed StoreAbsolute (Give (Register Y))) ∷ on 0x84 (Listed StoreDirect (Give (Register Y))) ∷
-    on 0x9C (Listed StoreAbsolute (Give of.Zero)) ∷ on 0x64 (Listed StoreDirect (Give of.Zero)) ∷
+    on 0x8D (listed StoreAbsolute (Give (Register A))) ∷ on 0x85 (listed StoreDirect (Give (Register A))) ∷
+    on 0x8E (listed StoreAbsolute (Give (Register X))) ∷ on 0x86 (listed StoreDirect (Give (Register X))) ∷
+    on 0x8C (listed StoreAbsolute (Give (Register Y))) ∷ on 0x84 (listed StoreDirect (Give (Register Y))) ∷
+    on 0x9C (listed StoreAbsolute (Give of.Zero)) ∷ on 0x64 (listed StoreDirect (Give of.Zero)) ∷
     -- XBA, REP, SEP, WDM, MVN, MVP
-    on 0xEB (Listed Xba (Do one.Xba)) ∷ on 0xC2 (Listed Mask (Flag false)) ∷ on 0xE2 (Listed Mask (Flag true)) ∷
-    on 0x42 (Listed Wdm Plain) ∷ on 0x54 (Listed Move (Flag true)) ∷ on 0x44 (Listed Move (Flag false)) ∷
+    on 0xEB (listed Xba (Do one.Xba)) ∷ on 0xC2 (listed Mask (Flag false)) ∷ on 0xE2 (listed Mask (Flag true)) ∷
+    on 0x42 (listed Wdm Plain) ∷ on 0x54 (listed Move (Flag true)) ∷ on 0x44 (listed Move (Flag false)) ∷
     -- branches
-    on 0x10 (Listed Branch (If (if.Negative false))) ∷ on 0x30 (Listed Branch (If (if.Negative true))) ∷ on 0x50 (Listed Branch (If (if.Overflow false))) ∷
-    on 0x70 (Listed Branch (If (if.Overflow true))) ∷ on 0x90 (Listed Branch (If (if.Carry false))) ∷ on 0xB0 (Listed Branch (If (if.Carry true))) ∷
-    on 0xD0 (Listed Branch (If (if.Zero false))) ∷ on 0xF0 (Listed Branch (If (if.Zero true))) ∷ on 0x80 (Listed Branch (If if.Always)) ∷
-    on 0x82 (Listed BranchLong Plain) ∷
+    on 0x10 (listed Branch (If (if.Negative false))) ∷ on 0x30 (listed Branch (If (if.Negative true))) ∷ on 0x50 (listed Branch (If (if.Overflow false))) ∷
+    on 0x70 (listed Branch (If (if.Overflow true))) ∷ on 0x90 (listed Branch (If (if.Carry false))) ∷ on 0xB0 (listed Branch (If (if.Carry true))) ∷
+    on 0xD0 (listed Branch (If (if.Zero false))) ∷ on 0xF0 (listed Branch (If (if.Zero true))) ∷ on 0x80 (listed Branch (If if.Always)) ∷
+    on 0x82 (listed BranchLong Plain) ∷
     -- jumps, calls and returns
-    on 0x4C (Listed Jump Plain) ∷ on 0x6C (Listed JumpIndirect Plain) ∷ on 0x7C (Listed JumpIndexed Plain) ∷
-    on 0x5C (Listed JumpLong Plain) ∷ on 0xDC (Listed JumpIndirectLong Plain) ∷ on 0x20 (Listed Call Plain) ∷
-    on 0xFC (Listed CallIndexed Plain) ∷ on 0x22 (Listed CallLong Plain) ∷ on 0x60 (Listed Return Plain) ∷
-    on 0x6B (Listed ReturnLong Plain) ∷
+    on 0x4C (listed Jump Plain) ∷ on 0x6C (listed JumpIndirect Plain) ∷ on 0x7C (listed JumpIndexed Plain) ∷
+    on 0x5C (listed JumpLong Plain) ∷ on 0xDC (listed JumpIndirectLong Plain) ∷ on 0x20 (listed Call Plain) ∷
+    on 0xFC (listed CallIndexed Plain) ∷ on 0x22 (listed CallLong Plain) ∷ on 0x60 (listed Return Plain) ∷
+    on 0x6B (listed ReturnLong Plain) ∷
     -- pushes and pulls
-    on 0x48 (Listed Push (Give (Register A))) ∷ on 0xDA (Listed Push (Give (Register X))) ∷ on 0x5A (Listed Push (Give (Register Y))) ∷
-    on 0x08 (Listed Push (Give of.P)) ∷ on 0x8B (Listed Push (Give of.Dbr)) ∷ on 0x0B (Listed Push (Give of.D)) ∷
-    on 0x4B (Listed Push (Give of.Pbr)) ∷ on 0x68 (Listed Pull (Take A)) ∷ on 0xFA (Listed Pull (Take X)) ∷
-    on 0x7A (Listed Pull (Take Y)) ∷ on 0x28 (Listed PullP Plain) ∷ on 0xAB (Listed PullB Plain) ∷
-    on 0x2B (Listed PullD Plain) ∷ on 0xF4 (Listed Pea Plain) ∷ on 0xD4 (Listed Pei Plain) ∷
-    on 0x62 (Listed Per Plain) ∷
+    on 0x48 (listed Push (Give (Register A))) ∷ on 0xDA (listed Push (Give (Register X))) ∷ on 0x5A (listed Push (Give (Register Y))) ∷
+    on 0x08 (listed Push (Give of.P)) ∷ on 0x8B (listed Push (Give of.Dbr)) ∷ on 0x0B (listed Push (Give of.D)) ∷
+    on 0x4B (listed Push (Give of.Pbr)) ∷ on 0x68 (listed Pull (Take A)) ∷ on 0xFA (listed Pull (Take X)) ∷
+    on 0x7A (listed Pull (Take Y)) ∷ on 0x28 (listed PullP Plain) ∷ on 0xAB (listed PullB Plain) ∷
+    on 0x2B (listed PullD Plain) ∷ on 0xF4 (listed Pea Plain) ∷ on 0xD4 (listed Pei Plain) ∷
+    on 0x62 (listed Per Plain) ∷
     map implied one_bytes
 
 -- what a byte is as an opcode
-unfoldable pub decode_of : ℕ → Op
-decode_of n = find Unlisted n opcodes
+unfoldable pub decode_of : ℕ → Option (Shape × Operation)
+decode_of n = find None n opcodes
 
-abbrev pub is_listed : Op → Bool
-is_listed Unlisted = false
-is_listed (Listed s o) = true
+abbrev pub is_listed : Option (Shape × Operation) → Bool
+is_listed None = false
+is_listed (Some (s, o)) = true
 
 -- ---- an operation's parts; the other operations have none, and what stands for it is never looked at
 abbrev pub alu_of : Operation → Alu

@@ -46,9 +46,3 @@ pub enum Operation {
     If(Cond),
     Flag(bool), // REP: false, SEP: true; MVP, downwards: false, MVN, upwards: true
 }
-
-#[derive(Clone, Copy)]
-pub enum Op {
-    Unlisted,
-    Listed(Shape, Operation),
-}

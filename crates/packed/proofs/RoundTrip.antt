@@ -1,19 +1,20 @@
 -- A record comes back from its bytes, and bytes that are a packed record from their record.
 use Prim.Native.Nat.{ℕ, zero, suc, ◌+◌, ◌*◌, ◌/◌, ◌%◌, ◌<◌}
+use Rattle.std.proofs.Common.{Some, None, ◌==◌}
+use Rattle.std.specs.List.{list_all}
 use mathlib.Core.Path.{◌≡◌, refl, sym, ap, ◌∙◌}
 use mathlib.Core.Bool.{Bool, true, false, ◌&&◌}
 use mathlib.Core.List.{List, [], ◌∷◌}
 use native.Mathlib.Omega.{arith}
 use borrow.Author.Tests.{eqb-true, ltb-true}
 use lib.Dec.{eqb, ltb}
-use lib.ListN.{length, get_or, drop, drop_of_length-le}
-use lib.Seq.{drop-cons}
+use lib.ListN.{length, get_or, take, drop, drop_of_length-le, length-drop}
+use lib.Seq.{drop-cons, take-length}
 use Rattle.words.specs.Words.{pick, bit, low_of, high_of, word}
 use Rattle.flags.specs.Flags.{bit_of, weigh}
 use Rattle.flags.specs.declared.Flags.{Flags}
 use Rattle.cpu.specs.declared.types.Record.{Record}
 use Rattle.packed.specs.Packed.{status_of, flags_of, pack, unpack, is_packed, byte_at, reserved, regular, unpacked, placed}
-use Rattle.packed.specs.declared.types.Unpacked.TheVariants.{Good, Bad}
 use Rattle.packed.proofs.Laws.{placed_whole}
 
 -- ---- words
@@ -181,6 +182,19 @@ pub from_drop : (n k : ℕ) (b : List ℕ) → length b ≡ k + n → from n k b
 from_drop zero k b e = sym (drop_of_length-le b {i = k} (omega arith))
 from_drop (suc n) k b e = rw (from_drop n (suc k) b (omega arith)) (sym (drop-cons b k 0 (omega arith)))
 
+and_true : (t : Bool) → (t && true) ≡ t
+and_true true = refl
+and_true false = refl
+
+take_whole : (n : ℕ) (l : List ℕ) → n ≡ length l → take n l ≡ l
+take_whole n l e = rw (e, take-length l)
+
+-- the reserved bytes are the last seven
+pub reserved_all : (b : List ℕ) → length b ≡ 32 → list_all (λ n. n == 0) (take 7 (drop 25 b)) ≡ reserved b
+reserved_all b e =
+    let t : take 7 (drop 25 b) ≡ drop 25 b = take_whole 7 (drop 25 b) (omega (arith, length-drop 25 b)) in
+    rw (t, ← from_drop 7 25 b e) (simp and_true)
+
 -- what a packed record's bytes are known to be
 pub record Regular (b : List ℕ) : Type 0 where
   pub size : length b ≡ 32
@@ -243,27 +257,27 @@ pack_unpack b p h =
     all ∙ from_drop 32 0 b g.size
 
 -- what the code finds in a record's bytes
-pub found_again : (r : Record) → unpacked (pack r) ≡ Good r
+pub found_again : (r : Record) → unpacked (pack r) ≡ Some r
 found_again r = rw (packed_regular r, unpack_pack r)
 
 -- ---- a record put in the place of another
 
-picked_good : (t : Bool) (s r : Record) → pick t (Good s) Bad ≡ Good r → t ≡ true
+picked_good : (t : Bool) (s r : Record) → pick t (Some s) None ≡ Some r → t ≡ true
 picked_good true s r h = refl
 picked_good false s r h = let z : ◌≡◌ {A = ℕ} 0 1 = cc in absurd (omega arith)
 
-pub good_packed : (b : List ℕ) (r : Record) → unpacked b ≡ Good r → is_packed b ≡ true
+pub good_packed : (b : List ℕ) (r : Record) → unpacked b ≡ Some r → is_packed b ≡ true
 good_packed b r h = picked_good (is_packed b) (unpack b) r h
 
-pub good_record : (b : List ℕ) (r : Record) → unpacked b ≡ Good r → r ≡ unpack b
-good_record b r h = let e : Good r ≡ Good (unpack b) = sym h ∙ rw (good_packed b r h) in cc
+pub good_record : (b : List ℕ) (r : Record) → unpacked b ≡ Some r → r ≡ unpack b
+good_record b r h = let e : Some r ≡ Some (unpack b) = sym h ∙ rw (good_packed b r h) in cc
 
 pub pack_length : (r : Record) → length (pack r) ≡ 32
 unfolding pack
 pack_length r = refl
 
 -- x, the bytes of s, put at the front of a packed record's
-pub put_back : (b t x : List ℕ) (r s : Record) → unpacked b ≡ Good r → x ≡ pack s → t ≡ placed b 0 x → t ≡ pack s
+pub put_back : (b t x : List ℕ) (r s : Record) → unpacked b ≡ Some r → x ≡ pack s → t ≡ placed b 0 x → t ≡ pack s
 put_back b t x r s h e f =
     let l : length b ≡ length (pack s) = (regular_of b (good_packed b r h)).size ∙ sym (pack_length s) in
     f ∙ ap (placed b 0) e ∙ placed_whole (pack s) b l

@@ -4,14 +4,12 @@
 --    4 A   6 X   8 Y   10 S   12 D   14 PC
 --   16 PBR   17 DBR   18 P   19 E, 0 or 1
 --   20 address scratch   22 data scratch   24 bank scratch   25 to 31 reserved, 0
-use Rattle.std.specs.Prelude.{ℕ, ◌+◌, Bool, false, ◌&&◌, List, [], ◌∷◌, eqb, ltb, leb, length, get_or}
+use Rattle.std.specs.Prelude.{ℕ, ◌+◌, Bool, false, ◌&&◌, List, [], ◌∷◌, eqb, ltb, leb, length, get_or, Option, Some, None}
 use Rattle.std.proofs.lemmas.List.Edits.{sets}
 use Rattle.words.specs.Words.{pick, bit, low_of, high_of, word}
 use Rattle.flags.specs.Flags.{bit_of, weigh}
 use Rattle.flags.specs.declared.Flags.{Flags}
 use Rattle.cpu.specs.declared.types.Record.{Record}
-use Rattle.packed.specs.declared.types.Unpacked.{Unpacked}
-use Rattle.packed.specs.declared.types.Unpacked.TheVariants.{Good, Bad}
 
 -- ---- P: N V M X D I Z C from bit 7 down, in emulation too
 
@@ -106,8 +104,8 @@ regular b = eqb (byte_at b 0) 1 && (ltb (byte_at b 1) 2 && (ltb (byte_at b 19) 2
 unfoldable pub is_packed : List ℕ → Bool
 is_packed b = eqb (length b) 32 && regular b
 
-abbrev pub unpacked : List ℕ → Unpacked
-unpacked b = pick (is_packed b) (Good (unpack b)) Bad
+abbrev pub unpacked : List ℕ → Option Record
+unpacked b = pick (is_packed b) (Some (unpack b)) None
 
 -- ---- bytes put at a place of others; without room nothing happens
 

@@ -1,31 +1,26 @@
 // Words stand with their low byte first. Bytes that are no packed record are found so before any of them is looked at as a register.
-ghost use Rattle.std.specs.Prelude.{◌≡◌, ◌+◌, ◌<◌, length};
+ghost use Rattle.std.specs.Prelude.{◌≡◌, ◌<◌, ◌==◌};
+ghost use Rattle.std.specs.List.{list_all};
 ghost use Rattle.packed.specs.Packed.{status_of, flags_of, start_of, pack, unpack, word_at, reserved, regular, unpacked, placed};
 
-use crate::types::Unpacked;
 use cpu::types::Record;
 use flags::Flags;
-use words::{both, high, join, low, one_if};
+use words::{high, join, low, one_if};
 
 // P as the flags are. `as_byte` sets M and X in emulation, where a record that isn't well formed may have them clear; so it is asked as
 // in native mode, and any record comes back.
+#[tactic(auto, unfolding(crate::specs::Packed::status_of, flags::specs::Flags::byte_of))]
 fn status(f: Flags) -> u8
     ensures { result ≡ status_of f }
 {
-    let native = Flags {
-        carry: f.carry,
-        zero: f.zero,
-        interruptdisable: f.interruptdisable,
-        decimal: f.decimal,
-        indexsel: f.indexsel,
-        memsel: f.memsel,
-        overflow: f.overflow,
-        negative: f.negative,
+    Flags {
         emulation: false,
-    };
-    native.as_byte()
+        ..f
+    }
+    .as_byte()
 }
 
+#[tactic(auto, unfolding(crate::specs::Packed::flags_of, flags::specs::Flags::set_byte))]
 fn flags_of(p: u8, e: bool) -> Flags
     ensures { result ≡ flags_of p e }
 {
@@ -40,22 +35,15 @@ fn flags_of(p: u8, e: bool) -> Flags
         negative: false,
         emulation: false,
     };
-    let f = clear.set(p);
     Flags {
-        carry: f.carry,
-        zero: f.zero,
-        interruptdisable: f.interruptdisable,
-        decimal: f.decimal,
-        indexsel: f.indexsel,
-        memsel: f.memsel,
-        overflow: f.overflow,
-        negative: f.negative,
         emulation: e,
+        ..clear.set(p)
     }
 }
 
 // The record of ten words, at an instruction's start: A X Y S D PC PBR DBR P E, as the paper writes a state. P is taken as it is, so that
 // one that isn't well formed in emulation is the core's to refuse.
+#[tactic(auto, unfolding(crate::specs::Packed::start_of))]
 pub fn start(
     a: u16,
     x: u16,
@@ -70,17 +58,17 @@ pub fn start(
 ) -> Record
     ensures { result ≡ start_of a x y s d pc pbr dbr p e }
 {
-    let f = flags_of(p, e);
+    let flags = flags_of(p, e);
     Record {
-        a: a,
-        x: x,
-        y: y,
-        s: s,
-        d: d,
-        pc: pc,
-        pbr: pbr,
-        dbr: dbr,
-        flags: f,
+        a,
+        x,
+        y,
+        s,
+        d,
+        pc,
+        pbr,
+        dbr,
+        flags,
         held: false,
         ir: 0,
         tcu: 0,
@@ -131,18 +119,17 @@ pub fn pack(r: Record) -> [u8; 32]
     ]
 }
 
-fn word_at(bytes: &[u8], at: usize) -> u16
-    requires { at + 1 < length bytes.now }
+fn word_at(bytes: &[u8; 32], at: usize) -> u16
+    requires { at < 31 }
     ensures { result ≡ word_at bytes.now at }
 {
     join(bytes[at], bytes[at + 1])
 }
 
-fn record_of(bytes: &[u8]) -> Record
-    requires { length bytes.now ≡ 32 }
+#[tactic(auto, unfolding(crate::specs::Packed::unpack))]
+fn record_of(bytes: &[u8; 32]) -> Record
     ensures { result ≡ unpack bytes.now }
 {
-    let f = flags_of(bytes[18], bytes[19] == 1);
     Record {
         a: word_at(bytes, 4),
         x: word_at(bytes, 6),
@@ -152,7 +139,7 @@ fn record_of(bytes: &[u8]) -> Record
         pc: word_at(bytes, 14),
         pbr: bytes[16],
         dbr: bytes[17],
-        flags: f,
+        flags: flags_of(bytes[18], bytes[19] == 1),
         held: bytes[1] == 1,
         ir: bytes[2],
         tcu: bytes[3],
@@ -162,43 +149,34 @@ fn record_of(bytes: &[u8]) -> Record
     }
 }
 
-fn is_reserved(bytes: &[u8]) -> bool
-    requires { length bytes.now ≡ 32 }
-    ensures { result ≡ reserved bytes.now }
+fn are_zeros(bytes: &[u8]) -> bool
+    ensures { result ≡ list_all (λ b. b == 0) bytes.now }
 {
-    let last = both(bytes[29] == 0, both(bytes[30] == 0, bytes[31] == 0));
-    both(
-        bytes[25] == 0,
-        both(
-            bytes[26] == 0,
-            both(bytes[27] == 0, both(bytes[28] == 0, last)),
-        ),
-    )
+    bytes.iter().all(|b| *b == 0)
 }
 
-fn is_regular(bytes: &[u8]) -> bool
-    requires { length bytes.now ≡ 32 }
+fn is_reserved(bytes: &[u8; 32]) -> bool
+    ensures { result ≡ reserved bytes.now }
+{
+    are_zeros(&bytes[25..])
+}
+
+fn is_regular(bytes: &[u8; 32]) -> bool
     ensures { result ≡ regular bytes.now }
 {
-    let zeros = is_reserved(bytes);
-    both(
-        bytes[0] == 1,
-        both(bytes[1] < 2, both(bytes[19] < 2, zeros)),
-    )
+    bytes[0] == 1 && bytes[1] < 2 && bytes[19] < 2 && is_reserved(bytes)
 }
 
 // The record of some bytes, if they are a packed record.
-pub fn unpack(bytes: &[u8]) -> Unpacked
+#[tactic(auto, unfolding(crate::specs::Packed::is_packed))]
+pub fn unpack(bytes: &[u8]) -> Option<Record>
     ensures { result ≡ unpacked bytes.now }
 {
-    if bytes.len() != 32 {
-        return Unpacked::Bad;
-    }
-    let good = is_regular(bytes);
-    if good {
-        Unpacked::Good(record_of(bytes))
+    let whole: &[u8; 32] = bytes.try_into().ok()?;
+    if is_regular(whole) {
+        Some(record_of(whole))
     } else {
-        Unpacked::Bad
+        None
     }
 }
 
@@ -213,9 +191,5 @@ pub fn put(bytes: &mut [u8], at: usize, src: &[u8])
     if bytes.len() - size < at {
         return;
     }
-    let mut i = 0;
-    while i < size {
-        bytes[at + i] = src[i];
-        i += 1;
-    }
+    bytes[at..at + size].copy_from_slice(src);
 }

@@ -2,4 +2,3 @@
 #![tactic(auto)]
 
 pub mod bytes;
-pub mod types;

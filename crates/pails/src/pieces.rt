@@ -1,12 +1,6 @@
 // How a budget is parted. Pieces join: crates/run and crates/traced have the theorems.
 ghost use Rattle.std.specs.Prelude.{◌≡◌, ◌-◌, ◌≤◌};
-ghost use Rattle.pails.specs.Pails.{least_of, first_of, left_of};
-
-fn least(a: u32, b: u32) -> u32
-    ensures { result ≡ least_of a b }
-{
-    if a < b { a } else { b }
-}
+ghost use Rattle.pails.specs.Pails.{first_of, left_of};
 
 // The first piece of a budget, or the next one of what is left. A budget that is refused goes to the core as it is.
 pub fn first(budget: u32, size: u32) -> u32
@@ -15,7 +9,7 @@ pub fn first(budget: u32, size: u32) -> u32
     if 1_000_000 < budget {
         return budget;
     }
-    least(budget, size)
+    budget.min(size)
 }
 
 // What is left after a piece of that size; after an empty one nothing, so that pieces come to an end.
@@ -26,5 +20,5 @@ pub fn left_after(left: u32, size: u32) -> u32
     if size == 0 {
         return 0;
     }
-    if size < left { left - size } else { 0 }
+    left.saturating_sub(size)
 }

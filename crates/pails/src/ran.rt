@@ -1,27 +1,85 @@
-// How a run ended, in one number: bits 0-31 its cycles, 32-39 its refusal, as include/glavorint.h has it. A refusal of 255 stands for a trace
-// that couldn't be written.
+// How a run ended, by the numbers that include/glavorint.h hands over.
 ghost use Rattle.std.specs.Prelude.{◌≡◌, ◌/◌, ◌%◌};
-ghost use Rattle.pails.specs.Pails.{joined_of, written_of, spelt_of};
+ghost use Rattle.pails.specs.Pails.{refusal_of, run_of, trace_of, joined_of, written_of, spelt_of};
 
-use std::num::wrapping_add_u64;
+use std::fmt;
 
-pub fn cycles(n: u64) -> u32
-    ensures { result ≡ n % 4294967296 }
-{
-    (n % 4_294_967_296) as u32
+// A refusal by its number in document 01. Any byte can stand in what is handed over.
+#[derive(Clone, Copy, Debug, PartialEq, Eq)]
+pub struct Refusal(pub u8);
+
+impl Refusal {
+    // 0 is no refusal.
+    pub fn of(number: u8) -> Option<Refusal>
+        ensures { result ≡ refusal_of number }
+    {
+        if number == 0 {
+            None
+        } else {
+            Some(Refusal(number))
+        }
+    }
 }
 
-pub fn refusal(n: u64) -> u8
-    ensures { result ≡ n / 4294967296 % 256 }
-{
-    (n / 4_294_967_296 % 256) as u8
+// Document 01's words for each.
+impl fmt::Display for Refusal {
+    fn fmt<W: fmt::Write>(&self, f: &mut fmt::Formatter<W>) -> fmt::Result {
+        f.write_str(match self.0 {
+            1 => "the memory isn't 65,536 bytes",
+            2 => "the budget is above 1,000,000 cycles",
+            3 => "the text buffer is too short",
+            4 => "the record isn't well formed",
+            5 => "the opcode held, or just fetched, isn't listed",
+            6 => "the held opcode has no such cycle",
+            7 => "a request outside bank 0",
+            _ => "",
+        })
+    }
 }
 
-// A run that wasn't refused, and the piece that went on from it.
-pub fn joined(before: u64, next: u64) -> u64
-    ensures { result ≡ joined_of before next }
-{
-    wrapping_add_u64(before, next)
+#[derive(Clone, Copy, Debug, PartialEq, Eq)]
+pub struct Ran {
+    pub cycles: u32,
+    pub refusal: Option<Refusal>,
+}
+
+impl Ran {
+    // By glavorint_run's number: bits 0-31 its cycles, 32-39 its refusal.
+    pub fn of_run(n: u64) -> Ran
+        ensures { result ≡ run_of n }
+    {
+        Ran {
+            cycles: (n % 4_294_967_296) as u32,
+            refusal: Refusal::of((n / 4_294_967_296 % 256) as u8),
+        }
+    }
+
+    // By glavorint_trace's: bits 0-23 its cycles, 56-63 its refusal.
+    pub fn of_trace(n: u64) -> Ran
+        ensures { result ≡ trace_of n }
+    {
+        Ran {
+            cycles: (n % 16_777_216) as u32,
+            refusal: Refusal::of((n / 72_057_594_037_927_936) as u8),
+        }
+    }
+
+    // A run that wasn't refused, and the piece that went on from it.
+    pub fn joined(self, next: Ran) -> Ran
+        ensures { result ≡ joined_of self next }
+    {
+        Ran {
+            cycles: self.cycles.wrapping_add(next.cycles),
+            refusal: self.refusal.or(next.refusal),
+        }
+    }
+}
+
+// A piece of a trace whose text couldn't be written: how far it came, and why.
+#[derive(Clone, Copy, Debug, PartialEq, Eq, Drop)]
+pub struct Untold<E> {
+    pub cycles: u32,
+    pub why: E,
 }
 
 // The bytes of text that a piece of a trace has, by glavorint_trace's number.
@@ -32,12 +90,15 @@ pub fn written(n: u64) -> usize
 }
 
 // How a piece of a trace ended, by glavorint_trace's number and whether its text was written.
-pub fn spelt(n: u64, told: bool) -> u64
+pub fn spelt<E>(n: u64, told: Result<(), E>) -> Result<Ran, Untold<E>>
     ensures { result ≡ spelt_of n told }
 {
-    let done = n % 16_777_216;
-    if told {
-        return done + n / 72_057_594_037_927_936 * 4_294_967_296;
+    let ran = Ran::of_trace(n);
+    match told {
+        Ok(()) => Ok(ran),
+        Err(why) => Err(Untold {
+            cycles: ran.cycles,
+            why,
+        }),
     }
-    done + 1_095_216_660_480
 }

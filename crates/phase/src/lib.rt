@@ -16,11 +16,11 @@ use flow::jumps::{
     jump_indirect_at, jump_indirect_long_at, jump_long_at, move_at, return_at, return_long_at,
 };
 use opcodes::operation::is_wide_operation;
-use opcodes::types::{Op, Operation, Shape};
+use opcodes::types::{Operation, Shape};
 use stack::{pea_at, pei_at, per_at, pull_at, pull_b_at, pull_d_at, pull_p_at, push_at};
 
 // A shape's cycle, by its number.
-pub fn phase(s: Shape, w: bool, d: bool, e: bool, tcu: u8) -> Cycle
+pub fn phase(s: Shape, w: bool, d: bool, e: bool, tcu: u8) -> Option<Cycle>
     ensures { result ≡ phase_of s w d e tcu }
 {
     match s {
@@ -57,20 +57,20 @@ pub fn phase(s: Shape, w: bool, d: bool, e: bool, tcu: u8) -> Cycle
     }
 }
 
-fn carried(o: Operation, c: Cycle) -> Micro
+fn carried(o: Operation, c: Option<Cycle>) -> Micro
     ensures { result ≡ carrying o c }
 {
     match c {
-        Cycle::Absent => Micro::Refuse(Refusal::NoCycle),
-        Cycle::Present(q, m, k, t) => Micro::Held(q, m, k, t, o),
+        None => Micro::Refuse(Refusal::NoCycle),
+        Some(k) => Micro::Held(k.ask, k.step, k.change, k.to, o),
     }
 }
 
 // What a held opcode's cycle does: refusal 5 for one that isn't listed, 6 for a cycle that it hasn't.
-pub fn held_micro(op: Op, f: Flags, d: u16, tcu: u8) -> Micro
+pub fn held_micro(op: Option<(Shape, Operation)>, f: Flags, d: u16, tcu: u8) -> Micro
     ensures { result ≡ held_micro op f d tcu }
 {
-    let Op::Listed(s, o) = op else {
+    let Some((s, o)) = op else {
         return Micro::Refuse(Refusal::Unlisted);
     };
     let w = is_wide_operation(o, f.memsel, f.indexsel);

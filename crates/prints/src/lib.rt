@@ -11,13 +11,12 @@ ghost use Rattle.trace.specs.Text.{Wrote};
 ghost use Rattle.dial.specs.Dial.{bytes_of, row_text, marks_of};
 ghost use Rattle.prints.specs.Prints.{Drawn, mark, ready};
 
-use cpu::registers::choose;
 use cpu::types::Kind;
 use dial::{Dial, tail, turned};
 use trace::has_room;
 use tracks::types::Track;
 use tracks::{between, is_direct, is_store, less, place, second_kind, third_kind};
-use words::{both, low, up};
+use words::{choose, low, up};
 
 // The next line's number, and its place in the text.
 #[derive(Clone, Copy)]
@@ -26,7 +25,17 @@ pub struct Mark {
     pub place: usize,
 }
 
+// What stood at the program counter before an instruction: its opcode and the two bytes after it.
+#[derive(Clone, Copy)]
+pub struct Fetched {
+    pub pc: u16,
+    pub op: u8,
+    pub first: u8,
+    pub second: u8,
+}
+
 // A line's kind and direction, in the bytes of a word with the tabs around them and the two digits of bank 0: \t O \t R \t 0 0, the first lowest.
+#[tactic(auto, unfolding(dial::specs::Dial::marks_of))]
 fn marks(kind: Kind) -> u64
     ensures { result ≡ marks_of kind false }
 {
@@ -38,6 +47,7 @@ fn marks(kind: Kind) -> u64
     }
 }
 
+#[tactic(auto, unfolding(dial::specs::Dial::marks_of))]
 fn data_marks(store: bool) -> u64
     ensures { result ≡ marks_of Data store }
 {
@@ -52,10 +62,7 @@ fn data_marks(store: bool) -> u64
 pub fn mark_of(dial: Dial, place: usize) -> Mark
     ensures { result ≡ mark dial place }
 {
-    Mark {
-        dial: dial,
-        place: place,
-    }
+    Mark { dial, place }
 }
 
 // Eight bytes of a word, the lowest first; the compiler makes one store of them.
@@ -95,7 +102,8 @@ fn put_near(
     at + w + 16
 }
 
-// The line of a byte that is read.
+// The line of a byte that is read. `datum_line` is apart for speed, and so are `fetches` and `data_lines`: with one line over a request, tried, a
+// traced run fell from 1.57 to 0.84 of the crate's cycles (docs/SPEED.md), since it is no longer inlined and its kind no longer a constant.
 fn fetch(text: &mut [u8], m: Mark, kind: Kind, p: u16, byte: u8) -> Mark
     requires { m.place + 23 ≤ length text.old }
     ensures { Drawn text.old text.new m result (reads kind p byte ∷ []) }
@@ -114,11 +122,12 @@ fn fetch(text: &mut [u8], m: Mark, kind: Kind, p: u16, byte: u8) -> Mark
 }
 
 // The line of a byte of data that was read or stored.
-fn datum_line(text: &mut [u8], m: Mark, store: bool, p: u16, mem: &[u8]) -> Mark
-    requires { (m.place + 23 ≤ length text.old) × (length mem.now ≡ 65536) }
+fn datum_line(text: &mut [u8], m: Mark, store: bool, p: u16, mem: &[u8; 65536]) -> Mark
+    requires { m.place + 23 ≤ length text.old }
     ensures { Drawn text.old text.new m result (datum store p mem.now ∷ []) }
 {
     let d = m.dial;
+    let byte = mem[p as usize];
     let q = put_near(
         text,
         m.place,
@@ -126,7 +135,7 @@ fn datum_line(text: &mut [u8], m: Mark, store: bool, p: u16, mem: &[u8]) -> Mark
         d.width,
         d.last,
         data_marks(store),
-        tail(p, mem[p as usize]),
+        tail(p, byte),
     );
     mark_of(turned(d), q)
 }
@@ -148,8 +157,8 @@ fn fetches(text: &mut [u8], m: Mark, k: u32, kind: Kind, p: u16, byte: u8) -> Ma
 }
 
 // None, one or two lines of data.
-fn data_lines(text: &mut [u8], m: Mark, k: u32, store: bool, p: u16, mem: &[u8]) -> Mark
-    requires { (m.place + 46 ≤ length text.old) × (length mem.now ≡ 65536) }
+fn data_lines(text: &mut [u8], m: Mark, k: u32, store: bool, p: u16, mem: &[u8; 65536]) -> Mark
+    requires { m.place + 46 ≤ length text.old }
     ensures { Drawn text.old text.new m result (up_to k (datum store p mem.now) (datum store (inc p) mem.now)) }
 {
     if k == 0 {
@@ -171,36 +180,26 @@ fn opening(text: &mut [u8], m: Mark, t: Track, op: u8, b1: u8, pc: u16) -> Mark
     fetch(text, a, second_kind(t), up(pc), b1)
 }
 
-fn byte_by(t: bool, a: u8, b: u8) -> u8
-    ensures { result ≡ pick t a b }
-{
-    if t { a } else { b }
-}
-
-// Whether a few lines have room, and the memory is whole.
-fn is_ready(len: usize, at: usize, size: usize) -> bool
-    ensures { result ≡ (leb (at + 161) len && eqb size 65536) }
-{
-    both(has_room(len, at, 161), size == 65536)
-}
-
 // The lines of an instruction of n cycles, by its track.
 fn track_lines(
     text: &mut [u8],
     m: Mark,
     t: Track,
-    op: u8,
-    b1: u8,
-    b2: u8,
-    pc: u16,
+    f: Fetched,
     d: u16,
     n: u32,
-    mem: &[u8],
+    mem: &[u8; 65536],
 ) -> Mark
-    requires { (m.place + 161 ≤ length text.old) × (length mem.now ≡ 65536) }
-    ensures { Drawn text.old text.new m result (track_lines t (unaligned d) op b1 b2 pc (place_by t d b1 b2) n mem.now) }
+    requires { m.place + 161 ≤ length text.old }
+    ensures { Drawn text.old text.new m result (track_lines t (unaligned d) f.op f.first f.second f.pc (place_by t d f.first f.second) n mem.now) }
 {
-    let a = opening(text, m, t, op, b1, pc);
+    let Fetched {
+        pc,
+        op,
+        first,
+        second,
+    } = f;
+    let a = opening(text, m, t, op, first, pc);
     let k = between(t, low(d) != 0, n);
     let direct = is_direct(t);
     let b = fetches(
@@ -209,14 +208,14 @@ fn track_lines(
         k,
         third_kind(t),
         choose(direct, up(pc), up(up(pc))),
-        byte_by(direct, b1, b2),
+        choose(direct, first, second),
     );
     data_lines(
         text,
         b,
         less(less(n, 2), k),
         is_store(t),
-        place(t, d, b1, b2),
+        place(t, d, first, second),
         mem,
     )
 }
@@ -225,22 +224,25 @@ fn track_lines(
 fn haul_lines(
     text: &mut [u8],
     m: Mark,
-    op: u8,
-    b1: u8,
-    b2: u8,
-    pc: u16,
+    f: Fetched,
     x: u16,
     y: u16,
     v: u8,
-    mem: &[u8],
+    mem: &[u8; 65536],
 ) -> Mark
-    requires { (m.place + 161 ≤ length text.old) × (length mem.now ≡ 65536) }
-    ensures { Drawn text.old text.new m result (haul_lines op b1 b2 pc x y v (get_or mem.now y 0)) }
+    requires { m.place + 161 ≤ length text.old }
+    ensures { Drawn text.old text.new m result (haul_lines f.op f.first f.second f.pc x y v (get_or mem.now y 0)) }
 {
+    let Fetched {
+        pc,
+        op,
+        first,
+        second,
+    } = f;
     let now = mem[y as usize];
     let a = fetch(text, m, Kind::Opcode, pc, op);
-    let b = fetch(text, a, Kind::Program, up(pc), b1);
-    let c = fetch(text, b, Kind::Program, up(up(pc)), b2);
+    let b = fetch(text, a, Kind::Program, up(pc), first);
+    let c = fetch(text, b, Kind::Program, up(up(pc)), second);
     let d = fetch(text, c, Kind::Data, x, v);
     let e = datum_line(text, d, true, y, mem);
     let f = fetch(text, e, Kind::Invalid, y, now);
@@ -249,47 +251,27 @@ fn haul_lines(
 
 // The lines of an instruction of n cycles, by its track, its bytes, D, and the memory after it: all of them where 161 bytes have room at the mark and the
 // memory has 65,536; otherwise none, and the mark stays.
-pub fn put_track(
-    text: &mut [u8],
-    m: Mark,
-    t: Track,
-    op: u8,
-    b1: u8,
-    b2: u8,
-    pc: u16,
-    d: u16,
-    n: u32,
-    mem: &[u8],
-) -> Mark
-    ensures { Drawn text.old text.new m result (pick (ready m.place text.old mem.now) (track_lines t (unaligned d) op b1 b2 pc (place_by t d b1 b2) n mem.now) []) }
+pub fn put_track(text: &mut [u8], m: Mark, t: Track, f: Fetched, d: u16, n: u32, mem: &[u8]) -> Mark
+    ensures { Drawn text.old text.new m result (pick (ready m.place text.old mem.now) (track_lines t (unaligned d) f.op f.first f.second f.pc (place_by t d f.first f.second) n mem.now) []) }
 {
-    let go = is_ready(text.len(), m.place, mem.len());
-    if go {
-        track_lines(text, m, t, op, b1, b2, pc, d, n, mem)
-    } else {
-        m
+    if !has_room(text.len(), m.place, 161) {
+        return m;
+    }
+    match mem.try_into() {
+        Ok(whole) => track_lines(text, m, t, f, d, n, whole),
+        Err(_) => m,
     }
 }
 
 // The lines of a byte of a move likewise: v as it was read; what stands there now is in the memory.
-pub fn put_haul(
-    text: &mut [u8],
-    m: Mark,
-    op: u8,
-    b1: u8,
-    b2: u8,
-    pc: u16,
-    x: u16,
-    y: u16,
-    v: u8,
-    mem: &[u8],
-) -> Mark
-    ensures { Drawn text.old text.new m result (pick (ready m.place text.old mem.now) (haul_lines op b1 b2 pc x y v (get_or mem.now y 0)) []) }
+pub fn put_haul(text: &mut [u8], m: Mark, f: Fetched, x: u16, y: u16, v: u8, mem: &[u8]) -> Mark
+    ensures { Drawn text.old text.new m result (pick (ready m.place text.old mem.now) (haul_lines f.op f.first f.second f.pc x y v (get_or mem.now y 0)) []) }
 {
-    let go = is_ready(text.len(), m.place, mem.len());
-    if go {
-        haul_lines(text, m, op, b1, b2, pc, x, y, v, mem)
-    } else {
-        m
+    if !has_room(text.len(), m.place, 161) {
+        return m;
+    }
+    match mem.try_into() {
+        Ok(whole) => haul_lines(text, m, f, x, y, v, whole),
+        Err(_) => m,
     }
 }

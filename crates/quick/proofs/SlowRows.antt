@@ -1,5 +1,8 @@
 -- The default arm of a match on a byte that has an arm for each quick row of the opcode list, and for no other.
 use Prim.Native.Nat.{ℕ}
+use Rattle.opcodes.specs.declared.types.Operation.{Operation}
+use Rattle.opcodes.specs.declared.types.Shape.{Shape}
+use Rattle.std.proofs.Common.{Option, None}
 use mathlib.Core.Path.{◌≡◌, refl, subst}
 use mathlib.Core.Bool.{Bool, true, false}
 use mathlib.Core.List.{List, [], ◌∷◌}
@@ -7,8 +10,6 @@ use lib.Dec.{T, eqb}
 use borrow.Author.Tests.{eqb-true}
 use Rattle.words.specs.Words.{pick}
 use Rattle.opcodes.specs.Opcodes.{Row, find}
-use Rattle.opcodes.specs.declared.types.Op.{Op}
-use Rattle.opcodes.specs.declared.types.Op.TheVariants.{Unlisted}
 use Rattle.opcodes.proofs.Keys.{Missed, in_any, not_missed}
 use Rattle.quick.specs.Quick.{quickened}
 use Rattle.quick.specs.declared.types.Quick.{Quick}
@@ -23,7 +24,7 @@ is_slow (If k t) = false
 is_slow Jump = false
 
 -- every row is slow, or its code is a key
-abbrev pub slow_or_key : List (Row Op) → List (List ℕ) → Bool
+abbrev pub slow_or_key : List (Row (Option (Shape × Operation))) → List (List ℕ) → Bool
 slow_or_key [] kss = true
 slow_or_key (r ∷ rs) kss = pick (pick (is_slow (quickened r.is)) true (in_any r.code kss)) (slow_or_key rs kss) false
 
@@ -45,13 +46,13 @@ slow (If k t') n kss t h = not_missed n kss t h
 slow Jump n kss t h = not_missed n kss t h
 
 -- a byte that is none of the keys is slow
-pub slow_rest : (n : ℕ) (rs : List (Row Op)) (kss : List (List ℕ)) → T (slow_or_key rs kss) → Missed kss n → quickened (find Unlisted n rs) ≡ Slow
+pub slow_rest : (n : ℕ) (rs : List (Row (Option (Shape × Operation)))) (kss : List (List ℕ)) → T (slow_or_key rs kss) → Missed kss n → quickened (find None n rs) ≡ Slow
 slow_rest n [] kss t h = refl
 slow_rest n (r ∷ rs) kss t h =
     go (eqb n r.code) refl (and_left (pick (is_slow (quickened r.is)) true (in_any r.code kss)) (slow_or_key rs kss) t)
     (slow_rest n rs kss (and_right (pick (is_slow (quickened r.is)) true (in_any r.code kss)) (slow_or_key rs kss) t) h)
   where
-    go : (b : Bool) → eqb n r.code ≡ b → T (pick (is_slow (quickened r.is)) true (in_any r.code kss)) → quickened (find Unlisted n rs) ≡ Slow
-        → quickened (pick b r.is (find Unlisted n rs)) ≡ Slow
+    go : (b : Bool) → eqb n r.code ≡ b → T (pick (is_slow (quickened r.is)) true (in_any r.code kss)) → quickened (find None n rs) ≡ Slow
+        → quickened (pick b r.is (find None n rs)) ≡ Slow
     go true e s more = slow (quickened r.is) r.code kss s (subst (Missed kss) (eqb-true n r.code e) h)
     go false e s more = more

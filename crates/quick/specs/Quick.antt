@@ -1,12 +1,12 @@
 -- The quick opcodes: those whose shape is an operand, a store, one byte but XBA, a branch, or the jump JMP a.
-use Rattle.std.specs.Prelude.{ℕ, Bool, true}
+use Rattle.std.specs.Prelude.{ℕ, Bool, true, Option, Some, None}
+use Rattle.opcodes.specs.declared.types.Operation.{Operation}
+use Rattle.opcodes.specs.declared.types.Shape.{Shape}
 use Rattle.flags.specs.declared.Flags.{Flags}
 use Rattle.cpu.specs.Record.{same}
 use Rattle.cpu.specs.declared.types.Cond.{Cond}
 use Rattle.cpu.specs.declared.types.Cond.TheVariants as if
 use Rattle.opcodes.specs.Opcodes.{decode_of, alu_of, reg_of, source_in, one_in, cond_in}
-use Rattle.opcodes.specs.declared.types.Op.{Op}
-use Rattle.opcodes.specs.declared.types.Op.TheVariants.{Unlisted, Listed}
 use Rattle.opcodes.specs.declared.types.Shape.TheVariants as shape
 use Rattle.quick.specs.declared.types.Mode.TheVariants.{Immediate, Direct, Absolute}
 use Rattle.quick.specs.declared.types.Test.{Test}
@@ -37,38 +37,38 @@ goes test.Negative t f = same t f.negative
 goes test.Overflow t f = same t f.overflow
 
 -- an opcode by its shape, on the quick path
-abbrev pub quickened : Op → Quick
-quickened Unlisted = Slow
-quickened (Listed shape.Immediate o) = Read Immediate (alu_of o) (reg_of o)
-quickened (Listed shape.Direct o) = Read Direct (alu_of o) (reg_of o)
-quickened (Listed shape.Absolute o) = Read Absolute (alu_of o) (reg_of o)
-quickened (Listed shape.StoreDirect o) = Store Direct (source_in o)
-quickened (Listed shape.StoreAbsolute o) = Store Absolute (source_in o)
-quickened (Listed shape.Implied o) = Do (one_in o)
-quickened (Listed shape.Branch o) = If (test_in (cond_in o)) (want_in (cond_in o))
-quickened (Listed shape.Jump o) = Jump
-quickened (Listed shape.Move o) = Slow
-quickened (Listed shape.Xba o) = Slow
-quickened (Listed shape.Mask o) = Slow
-quickened (Listed shape.Wdm o) = Slow
-quickened (Listed shape.Push o) = Slow
-quickened (Listed shape.Pull o) = Slow
-quickened (Listed shape.PullP o) = Slow
-quickened (Listed shape.PullB o) = Slow
-quickened (Listed shape.PullD o) = Slow
-quickened (Listed shape.Pea o) = Slow
-quickened (Listed shape.Pei o) = Slow
-quickened (Listed shape.Per o) = Slow
-quickened (Listed shape.JumpLong o) = Slow
-quickened (Listed shape.JumpIndirect o) = Slow
-quickened (Listed shape.JumpIndirectLong o) = Slow
-quickened (Listed shape.JumpIndexed o) = Slow
-quickened (Listed shape.Call o) = Slow
-quickened (Listed shape.CallIndexed o) = Slow
-quickened (Listed shape.CallLong o) = Slow
-quickened (Listed shape.Return o) = Slow
-quickened (Listed shape.ReturnLong o) = Slow
-quickened (Listed shape.BranchLong o) = Slow
+abbrev pub quickened : Option (Shape × Operation) → Quick
+quickened None = Slow
+quickened (Some (shape.Immediate, o)) = Read Immediate (alu_of o) (reg_of o)
+quickened (Some (shape.Direct, o)) = Read Direct (alu_of o) (reg_of o)
+quickened (Some (shape.Absolute, o)) = Read Absolute (alu_of o) (reg_of o)
+quickened (Some (shape.StoreDirect, o)) = Store Direct (source_in o)
+quickened (Some (shape.StoreAbsolute, o)) = Store Absolute (source_in o)
+quickened (Some (shape.Implied, o)) = Do (one_in o)
+quickened (Some (shape.Branch, o)) = If (test_in (cond_in o)) (want_in (cond_in o))
+quickened (Some (shape.Jump, o)) = Jump
+quickened (Some (shape.Move, o)) = Slow
+quickened (Some (shape.Xba, o)) = Slow
+quickened (Some (shape.Mask, o)) = Slow
+quickened (Some (shape.Wdm, o)) = Slow
+quickened (Some (shape.Push, o)) = Slow
+quickened (Some (shape.Pull, o)) = Slow
+quickened (Some (shape.PullP, o)) = Slow
+quickened (Some (shape.PullB, o)) = Slow
+quickened (Some (shape.PullD, o)) = Slow
+quickened (Some (shape.Pea, o)) = Slow
+quickened (Some (shape.Pei, o)) = Slow
+quickened (Some (shape.Per, o)) = Slow
+quickened (Some (shape.JumpLong, o)) = Slow
+quickened (Some (shape.JumpIndirect, o)) = Slow
+quickened (Some (shape.JumpIndirectLong, o)) = Slow
+quickened (Some (shape.JumpIndexed, o)) = Slow
+quickened (Some (shape.Call, o)) = Slow
+quickened (Some (shape.CallIndexed, o)) = Slow
+quickened (Some (shape.CallLong, o)) = Slow
+quickened (Some (shape.Return, o)) = Slow
+quickened (Some (shape.ReturnLong, o)) = Slow
+quickened (Some (shape.BranchLong, o)) = Slow
 
 -- what a byte is on the quick path
 unfoldable pub quick_of : ℕ → Quick

@@ -11,6 +11,7 @@ use cpu::types::{One, Reg, Source};
 pub mod types;
 
 // What a byte is on the quick path. An arm for each byte, of constants alone: a look-up, where `decode` reckons.
+#[tactic(auto, unfolding(crate::specs::Quick::quick_of, opcodes::specs::Opcodes::decode_of, opcodes::specs::Opcodes::opcodes, opcodes::specs::Opcodes::one_bytes))]
 pub fn quick(op: u8) -> Quick
     ensures { result ≡ quick_of op }
 {

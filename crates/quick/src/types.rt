@@ -9,7 +9,8 @@ pub enum Mode {
     Absolute,
 }
 
-// What a branch looks at.
+// What a branch looks at. With what the flag must be it is two parts of `Quick::If`, and no `Cond`: an enum inside that enum made
+// the processor wait in every stride (docs/SPEED.md).
 #[derive(Clone, Copy)]
 pub enum Test {
     Always,

@@ -12,7 +12,7 @@ pub struct Watched<'a> {
 impl<'a> Watched<'a> {
     pub fn new(out: &'a HostRuntime) -> Watched<'a> {
         Watched {
-            out: out,
+            out,
             left: Cell::new(false),
         }
     }
@@ -22,12 +22,11 @@ impl<'a> Watched<'a> {
     }
 
     fn noted(&self, told: io::Result<()>) -> io::Result<()> {
-        if let Err(why) = &told {
+        told.inspect_err(|why| {
             if why.kind() == io::ErrorKind::BrokenPipe {
                 self.left.set(true);
             }
-        }
-        told
+        })
     }
 }
 

@@ -1,5 +1,6 @@
 -- What a whole instruction comes to, by its opcode: the law that the code of a stride leans on.
 use Prim.Native.Nat.{ℕ, ◌+◌, ◌<◌}
+use Rattle.std.proofs.Common.{Option, Some, None}
 use mathlib.Core.Path.{◌≡◌, refl, ap, sym, subst, ◌∙◌}
 use mathlib.Core.Bool.{Bool, true, false, not, ◌&&◌, ◌||◌}
 use mathlib.Core.List.{List, [], ◌∷◌}
@@ -19,8 +20,6 @@ use Rattle.cpu.specs.declared.types.Cond.{Cond}
 use Rattle.cpu.specs.declared.types.Cond.TheVariants as if
 use Rattle.flags.specs.declared.Flags.{Flags}
 use Rattle.opcodes.specs.Opcodes.{Row, find, one_bytes, opcodes, decode_of, wide_of, cond_in, flag_in}
-use Rattle.opcodes.specs.declared.types.Op.{Op}
-use Rattle.opcodes.specs.declared.types.Op.TheVariants.{Unlisted, Listed}
 use Rattle.opcodes.specs.declared.types.Operation.{Operation}
 use Rattle.opcodes.specs.declared.types.Operation.TheVariants as operation
 use Rattle.opcodes.specs.declared.types.Shape.{Shape}
@@ -98,25 +97,25 @@ suits Branch o = true
 suits BranchLong o = true
 suits Move o = true
 
-abbrev suited : Op → Bool
-suited Unlisted = true
-suited (Listed s o) = suits s o
+abbrev suited : Option (Shape × Operation) → Bool
+suited None = true
+suited (Some (s, o)) = suits s o
 
-abbrev all_suited : List (Row Op) → Bool
+abbrev all_suited : List (Row (Option (Shape × Operation))) → Bool
 all_suited [] = true
 all_suited (r ∷ rs) = pick (suited r.is) (all_suited rs) false
 
-found_suited : (n : ℕ) (rs : List (Row Op)) → T (all_suited rs) → suited (find Unlisted n rs) ≡ true
+found_suited : (n : ℕ) (rs : List (Row (Option (Shape × Operation)))) → T (all_suited rs) → suited (find None n rs) ≡ true
 found_suited n [] t = refl
 found_suited n (r ∷ rs) t = go (eqb n r.code) (suited r.is) refl (found_suited n rs) t
   where
-    go : (e v : Bool) → suited r.is ≡ v → (T (all_suited rs) → suited (find Unlisted n rs) ≡ true) → T (pick v (all_suited rs) false)
-        → suited (pick e r.is (find Unlisted n rs)) ≡ true
+    go : (e v : Bool) → suited r.is ≡ v → (T (all_suited rs) → suited (find None n rs) ≡ true) → T (pick v (all_suited rs) false)
+        → suited (pick e r.is (find None n rs)) ≡ true
     go true true h more t = h
     go false true h more t = more t
     go e false h more t = absurd t
 
-decoded_suits : (n : ℕ) (s : Shape) (o : Operation) → decode_of n ≡ Listed s o → suits s o ≡ true
+decoded_suits : (n : ℕ) (s : Shape) (o : Operation) → decode_of n ≡ Some (s, o) → suits s o ≡ true
 unfolding decode_of opcodes one_bytes
 decoded_suits n s o h = ap suited (sym h) ∙ found_suited n opcodes tt
 
@@ -140,7 +139,7 @@ module _ (r : Record) (m : List ℕ) (whole : length m ≡ size) (well : well_fo
       (place_by t r.d (there r m (up r.pc 1)) (there r m (up r.pc 2))) n k
 
   -- what is to be shown of an opcode
-  abbrev Stride : ℕ → Op → Type 0
+  abbrev Stride : ℕ → Option (Shape × Operation) → Type 0
   Stride i q = ((leg_by r m (quickened q)).cycles ≡ 0 → ⊥)
       → Leaves (leg_by r m (quickened q)).cycles r m (arrived i (leg_by r m (quickened q))) (mem_by r m (quickened q))
       (lines_by (track_by (quickened q)) (leg_by r m (quickened q)).cycles (mem_by r m (quickened q)))
@@ -155,7 +154,7 @@ module _ (r : Record) (m : List ℕ) (whole : length m ≡ size) (well : well_fo
   emulated = r.flags.emulation
 
   module _ (unheld : r.held ≡ false) where
-    row_is : (b : ℕ → ℕ) (s : Shape) (o : Operation) → b 0 ≡ op → decode_of op ≡ Listed s o → run 8 b r ≡ sheet r b s o (wide o) skew emulated
+    row_is : (b : ℕ → ℕ) (s : Shape) (o : Operation) → b 0 ≡ op → decode_of op ≡ Some (s, o) → run 8 b r ≡ sheet r b s o (wide o) skew emulated
     unfolding instruction
     row_is b s o e h = demand_2 r b well unheld small ∙ ap (λ (i : ℕ). row r b (decode_of i)) e ∙ ap (row r b) h
 
@@ -166,7 +165,7 @@ module _ (r : Record) (m : List ℕ) (whole : length m ≡ size) (well : well_fo
     in_room i = ltb-true _ _ (and_right (eqb r.dbr 0) (ltb (operand r m) 65535) i)
 
     -- an operand in the data bank, by whether it lies inside
-    absolute_read : (o : Operation) → is_read o ≡ true → decode_of op ≡ Listed Absolute o → (i : Bool) → inside r m (operand r m) ≡ i → Stride op (Listed Absolute o)
+    absolute_read : (o : Operation) → is_read o ≡ true → decode_of op ≡ Some (Absolute, o) → (i : Bool) → inside r m (operand r m) ≡ i → Stride op (Some (Absolute, o))
     absolute_read (operation.Read k g) h d true i =
         subst
         (λ (t : Bool). (pick t (4 + bit (wide (operation.Read k g))) 0 ≡ 0 → ⊥)
@@ -182,7 +181,7 @@ module _ (r : Record) (m : List ℕ) (whole : length m ≡ size) (well : well_fo
     absolute_read (operation.If c) h d t i = absurd (false_true h)
     absolute_read (operation.Flag f) h d t i = absurd (false_true h)
 
-    immediate_read : (o : Operation) → is_read o ≡ true → decode_of op ≡ Listed Immediate o → Stride op (Listed Immediate o)
+    immediate_read : (o : Operation) → is_read o ≡ true → decode_of op ≡ Some (Immediate, o) → Stride op (Some (Immediate, o))
     immediate_read (operation.Read k g) h d = λ _. immediate_leaves r m whole bank small k g emulated (wide (operation.Read k g)) skew (row_is _ _ _ refl d)
     immediate_read operation.Plain h d = absurd (false_true h)
     immediate_read (operation.Give s) h d = absurd (false_true h)
@@ -196,7 +195,7 @@ module _ (r : Record) (m : List ℕ) (whole : length m ≡ size) (well : well_fo
     direct_first k g true = refl
     direct_first k g false = refl
 
-    direct_read : (o : Operation) → is_read o ≡ true → decode_of op ≡ Listed Direct o → Stride op (Listed Direct o)
+    direct_read : (o : Operation) → is_read o ≡ true → decode_of op ≡ Some (Direct, o) → Stride op (Some (Direct, o))
     direct_read (operation.Read k g) h d = λ _. direct_leaves r m whole bank small k g emulated (wide (operation.Read k g)) skew (row_is _ _ _ (direct_first k g skew) d)
     direct_read operation.Plain h d = absurd (false_true h)
     direct_read (operation.Give s) h d = absurd (false_true h)
@@ -221,7 +220,7 @@ module _ (r : Record) (m : List ℕ) (whole : length m ≡ size) (well : well_fo
     absolute_count true a b = refl
     absolute_count false a b = refl
 
-    direct_store : (o : Operation) → is_give o ≡ true → decode_of op ≡ Listed StoreDirect o → Stride op (Listed StoreDirect o)
+    direct_store : (o : Operation) → is_give o ≡ true → decode_of op ≡ Some (StoreDirect, o) → Stride op (Some (StoreDirect, o))
     direct_store (operation.Give src) h d = λ _.
         let n : ℕ = 3 + bit (wide (operation.Give src)) + bit skew in
         subst
@@ -235,7 +234,7 @@ module _ (r : Record) (m : List ℕ) (whole : length m ≡ size) (well : well_fo
     direct_store (operation.If c) h d = absurd (false_true h)
     direct_store (operation.Flag f) h d = absurd (false_true h)
 
-    absolute_store : (o : Operation) → is_give o ≡ true → decode_of op ≡ Listed StoreAbsolute o → (i : Bool) → inside r m (operand r m) ≡ i → Stride op (Listed StoreAbsolute o)
+    absolute_store : (o : Operation) → is_give o ≡ true → decode_of op ≡ Some (StoreAbsolute, o) → (i : Bool) → inside r m (operand r m) ≡ i → Stride op (Some (StoreAbsolute, o))
     absolute_store (operation.Give src) h d true i =
         let w : Bool = wide (operation.Give src) in
         subst
@@ -254,43 +253,43 @@ module _ (r : Record) (m : List ℕ) (whole : length m ≡ size) (well : well_fo
     absolute_store (operation.If c) h d t i = absurd (false_true h)
     absolute_store (operation.Flag f) h d t i = absurd (false_true h)
 
-    by_shape : (q : Op) → decode_of op ≡ q → Stride op q
-    by_shape Unlisted d = λ n. absurd (n refl)
-    by_shape (Listed Immediate o) d = immediate_read o (decoded_suits op Immediate o d) d
-    by_shape (Listed Absolute o) d = absolute_read o (decoded_suits op Absolute o d) d (inside r m (operand r m)) refl
-    by_shape (Listed Direct o) d = direct_read o (decoded_suits op Direct o d) d
-    by_shape (Listed StoreAbsolute o) d = absolute_store o (decoded_suits op StoreAbsolute o d) d (inside r m (operand r m)) refl
-    by_shape (Listed StoreDirect o) d = direct_store o (decoded_suits op StoreDirect o d) d
-    by_shape (Listed Implied o) d = λ _. do_leaves r m whole bank small o (wide o) skew emulated (row_is _ _ _ refl d)
-    by_shape (Listed Xba o) d = λ n. absurd (n refl)
-    by_shape (Listed Mask o) d = λ n. absurd (n refl)
-    by_shape (Listed Wdm o) d = λ n. absurd (n refl)
-    by_shape (Listed Push o) d = λ n. absurd (n refl)
-    by_shape (Listed Pull o) d = λ n. absurd (n refl)
-    by_shape (Listed PullP o) d = λ n. absurd (n refl)
-    by_shape (Listed PullB o) d = λ n. absurd (n refl)
-    by_shape (Listed PullD o) d = λ n. absurd (n refl)
-    by_shape (Listed Pea o) d = λ n. absurd (n refl)
-    by_shape (Listed Pei o) d = λ n. absurd (n refl)
-    by_shape (Listed Per o) d = λ n. absurd (n refl)
-    by_shape (Listed Jump o) d = λ _. jump_leaves r m whole bank small o (wide o) skew emulated (row_is _ _ _ refl d)
-    by_shape (Listed JumpLong o) d = λ n. absurd (n refl)
-    by_shape (Listed JumpIndirect o) d = λ n. absurd (n refl)
-    by_shape (Listed JumpIndirectLong o) d = λ n. absurd (n refl)
-    by_shape (Listed JumpIndexed o) d = λ n. absurd (n refl)
-    by_shape (Listed Call o) d = λ n. absurd (n refl)
-    by_shape (Listed CallIndexed o) d = λ n. absurd (n refl)
-    by_shape (Listed CallLong o) d = λ n. absurd (n refl)
-    by_shape (Listed Return o) d = λ n. absurd (n refl)
-    by_shape (Listed ReturnLong o) d = λ n. absurd (n refl)
-    by_shape (Listed Branch o) d =
+    by_shape : (q : Option (Shape × Operation)) → decode_of op ≡ q → Stride op q
+    by_shape None d = λ n. absurd (n refl)
+    by_shape (Some (Immediate, o)) d = immediate_read o (decoded_suits op Immediate o d) d
+    by_shape (Some (Absolute, o)) d = absolute_read o (decoded_suits op Absolute o d) d (inside r m (operand r m)) refl
+    by_shape (Some (Direct, o)) d = direct_read o (decoded_suits op Direct o d) d
+    by_shape (Some (StoreAbsolute, o)) d = absolute_store o (decoded_suits op StoreAbsolute o d) d (inside r m (operand r m)) refl
+    by_shape (Some (StoreDirect, o)) d = direct_store o (decoded_suits op StoreDirect o d) d
+    by_shape (Some (Implied, o)) d = λ _. do_leaves r m whole bank small o (wide o) skew emulated (row_is _ _ _ refl d)
+    by_shape (Some (Xba, o)) d = λ n. absurd (n refl)
+    by_shape (Some (Mask, o)) d = λ n. absurd (n refl)
+    by_shape (Some (Wdm, o)) d = λ n. absurd (n refl)
+    by_shape (Some (Push, o)) d = λ n. absurd (n refl)
+    by_shape (Some (Pull, o)) d = λ n. absurd (n refl)
+    by_shape (Some (PullP, o)) d = λ n. absurd (n refl)
+    by_shape (Some (PullB, o)) d = λ n. absurd (n refl)
+    by_shape (Some (PullD, o)) d = λ n. absurd (n refl)
+    by_shape (Some (Pea, o)) d = λ n. absurd (n refl)
+    by_shape (Some (Pei, o)) d = λ n. absurd (n refl)
+    by_shape (Some (Per, o)) d = λ n. absurd (n refl)
+    by_shape (Some (Jump, o)) d = λ _. jump_leaves r m whole bank small o (wide o) skew emulated (row_is _ _ _ refl d)
+    by_shape (Some (JumpLong, o)) d = λ n. absurd (n refl)
+    by_shape (Some (JumpIndirect, o)) d = λ n. absurd (n refl)
+    by_shape (Some (JumpIndirectLong, o)) d = λ n. absurd (n refl)
+    by_shape (Some (JumpIndexed, o)) d = λ n. absurd (n refl)
+    by_shape (Some (Call, o)) d = λ n. absurd (n refl)
+    by_shape (Some (CallIndexed, o)) d = λ n. absurd (n refl)
+    by_shape (Some (CallLong, o)) d = λ n. absurd (n refl)
+    by_shape (Some (Return, o)) d = λ n. absurd (n refl)
+    by_shape (Some (ReturnLong, o)) d = λ n. absurd (n refl)
+    by_shape (Some (Branch, o)) d =
         subst
         (λ (t : Bool). ((branching r m t).cycles ≡ 0 → ⊥)
         → Leaves (branching r m t).cycles r m (arrived op (branching r m t)) m (lines_by track.Branch (branching r m t).cycles m))
         (sym (goes_holds (cond_in o) r.flags))
         (λ _. branch_leaves r m whole bank small o (wide o) skew (row_is _ _ _ refl d))
-    by_shape (Listed BranchLong o) d = λ n. absurd (n refl)
-    by_shape (Listed Move o) d = λ n. absurd (n refl)
+    by_shape (Some (BranchLong, o)) d = λ n. absurd (n refl)
+    by_shape (Some (Move, o)) d = λ n. absurd (n refl)
 
   -- A stride from a fresh record comes to what so many cycles come to, and these are their lines.
   pub leg_leaves : r.held ≡ false → ((leg_of r m).cycles ≡ 0 → ⊥)
@@ -409,7 +408,7 @@ module _ (r : Record) (m : List ℕ) (whole : length m ≡ size) (well : well_fo
       eqb-true _ _ (and_right (eqb (there r m (up r.pc 1)) 0) (eqb (there r m (up r.pc 2)) 0) close),
     )
 
-    byte_of : (o : Operation) → decode_of r.ir ≡ Listed Move o → Leaves 7 r m (hauled (flag_in o) r) (carried r m) (byte_lines (carried r m))
+    byte_of : (o : Operation) → decode_of r.ir ≡ Some (Move, o) → Leaves 7 r m (hauled (flag_in o) r) (carried r m) (byte_lines (carried r m))
     byte_of o d =
         move_leaves r m whole bank small o x-small y-small banks (wide_of o r.flags.memsel r.flags.indexsel) (unaligned r.d) r.flags.emulation
         (between_bytes r _ o well held start d small)

@@ -43,10 +43,6 @@ module _ (b l : ℕ) (r at : Record) (m k : List ℕ) (fits : l ≤ b) (some : 0
   pub walked : (u : Stretch) → well_formed at ≡ true → u ≡ stretch (b - l) at → Goes r m u k × (u.cycles < b)
   walked u w e = subst (λ (v : Stretch). Goes r m v k × (v.cycles < b)) (sym e) ((so_far, w), omega (arith, fits, some))
 
--- from a record that is the same
-pub from_same : (b : ℕ) (r s : Record) (m k : List ℕ) (u : Stretch) → s ≡ r → Goes s m u k × (u.cycles < b) → Goes r m u k × (u.cycles < b)
-from_same b r s m k u e h = subst (λ (v : Record). Goes v m u k × (u.cycles < b)) e h
-
 -- ---- what a fresh record has anyway
 module _ (r : Record) (well : well_formed r ≡ true) (start : fresh r ≡ true) where
   abbrev made : (pbr : ℕ) → (held : Bool) → (ir tcu addr dat bank : ℕ) → Record
@@ -106,10 +102,10 @@ left_ahead b d n w r s m k h p a =
     let e : b - d ≡ n + (b - (d + n)) = omega (arith, h) in
     let j : run_of (b - d) r m ≡ joined (run_of n r m) (run_of (b - (d + n)) s k) =
     ap (λ (i : ℕ). run_of i r m) e
-    ∙ cut n (b - (d + n)) r m p.number
+    ∙ cut n (b - (d + n)) r m p.refusal
     ∙ ap (λ (v : Record). joined (run_of n r m) (run_of (b - (d + n)) v (run_of n r m).mem)) p.rec
     ∙ ap (λ (v : List ℕ). joined (run_of n r m) (run_of (b - (d + n)) s v)) p.mem in
     let a' : Left d w (joined (run_of n r m) (run_of (b - (d + n)) s k)) = subst (Left d w) j a in
     let c : length (joined (run_of n r m) (run_of (b - (d + n)) s k)).lines ≡ n + length (run_of (b - (d + n)) s k).lines =
     length-append (run_of n r m).lines (run_of (b - (d + n)) s k).lines ∙ ap (λ (i : ℕ). i + length (run_of (b - (d + n)) s k).lines) p.count in
-    record { number = a'.number; rec = a'.rec; mem = a'.mem; count = a'.count ∙ omega (arith, c) }
+    record { refusal = a'.refusal; rec = a'.rec; mem = a'.mem; count = a'.count ∙ omega (arith, c) }

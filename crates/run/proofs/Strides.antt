@@ -1,5 +1,6 @@
 -- A quick instruction at a stride comes to what its cycles come to, one after the other.
 use Prim.Native.Nat.{ℕ, ◌+◌, ◌<◌}
+use Rattle.std.proofs.Common.{Result, Ok}
 use mathlib.Core.Path.{◌≡◌, refl, ap, sym, subst, ◌∙◌}
 use mathlib.Core.Logic.{◌≢◌}
 use mathlib.Core.Bool.{Bool, true, false, not, ◌&&◌}
@@ -12,13 +13,13 @@ use Rattle.alu.specs.declared.types.Alu.{Alu}
 use Rattle.cpu.specs.Record.{regs_of, ended, holds, source_of}
 use Rattle.cpu.specs.Registers.{applied, stack_of}
 use Rattle.cpu.specs.declared.types.Record.{Record}
+use Rattle.cpu.specs.declared.types.Refusal.{Refusal}
 use Rattle.cpu.specs.declared.types.Reg.{Reg}
 use Rattle.cpu.specs.declared.types.Regs.{Regs}
 use Rattle.cpu.specs.declared.types.Source.{Source}
 use Rattle.cpu.specs.declared.types.Request.{Request}
 use Rattle.cpu.specs.declared.types.Kind.{Kind}
 use Rattle.cpu.specs.declared.types.Kind.TheVariants as kind
-use Rattle.cpu.specs.declared.types.Answer.TheVariants.{Next}
 use Rattle.opcodes.specs.Opcodes.{one_in, cond_in, flag_in}
 use Rattle.opcodes.specs.declared.types.Operation.{Operation}
 use Rattle.opcodes.specs.declared.types.Operation.TheVariants as operation
@@ -58,11 +59,11 @@ next_place p h = omega arith
 
 module _ (r : Record) (m : List ℕ) (whole : length m ≡ size) (bank : r.pbr ≡ 0) (small : r.pc < 65536) where
   -- a row of the sheet that the record's cycles come to, over the memory
-  leaves_row : (b : ℕ → ℕ) (v : Ran) (u : Record) (ls : List Request) → run 8 b r ≡ v → v.out ≡ Next u → Answers m b v.requests
+  leaves_row : (b : ℕ → ℕ) (v : Ran) (u : Record) (ls : List Request) → run 8 b r ≡ v → v.out ≡ Ok u → Answers m b v.requests
       → lines_all m v.requests ≡ ls → Leaves (length v.requests) r m u (stores_all m v.requests) ls
   leaves_row b v u ls e out x told =
       subst (Leaves (length v.requests) r m u (stores_all m v.requests)) told
-      (subst (λ (t : Ran). t.out ≡ Next u → Answers m b t.requests
+      (subst (λ (t : Ran). t.out ≡ Ok u → Answers m b t.requests
       → Leaves (length t.requests) r m u (stores_all m t.requests) (lines_all m t.requests)) e (leaves_run 8 b m whole r u) out x)
 
   -- program bytes, and data in bank 0
@@ -126,8 +127,8 @@ module _ (r : Record) (m : List ℕ) (whole : length m ≡ size) (bank : r.pbr �
   placed_high : (p v : ℕ) → high_of v ≡ get_or (placed true p v m) (inc p) 0
   placed_high p v = sym (get_or-set_same (set m p (low_of v)) (inc p) (high_of v) 0 (rw (length-set m p (low_of v), whole) (inc_small p)))
 
-  in_bank : (p s : ℕ) (g : Regs) → Next (ended op false r.pbr p s r.dbr g) ≡ Next (ended op false 0 p s r.dbr g)
-  in_bank p s g = ap (λ (z : ℕ). Next (ended op false z p s r.dbr g)) bank
+  in_bank : (p s : ℕ) (g : Regs) → ◌≡◌ {A = Result Record Refusal} (Ok (ended op false r.pbr p s r.dbr g)) (Ok (ended op false 0 p s r.dbr g))
+  in_bank p s g = ap (λ (z : ℕ). Ok (ended op false z p s r.dbr g)) bank
 
   -- ---- reads
   module _ (k : Alu) (g : Reg) (e : Bool) where
@@ -253,7 +254,7 @@ module _ (r : Record) (m : List ℕ) (whole : length m ≡ size) (bank : r.pbr �
           (and _ _ _ _ (line_at kind.Data _ _ far_home) refl))))
 
   -- the same, by what the memory comes to
-  leaves_to : (b : ℕ → ℕ) (v : Ran) (u : Record) (k : List ℕ) (ls : List Request) → run 8 b r ≡ v → v.out ≡ Next u → Answers m b v.requests
+  leaves_to : (b : ℕ → ℕ) (v : Ran) (u : Record) (k : List ℕ) (ls : List Request) → run 8 b r ≡ v → v.out ≡ Ok u → Answers m b v.requests
       → stores_all m v.requests ≡ k → lines_all m v.requests ≡ ls → Leaves (length v.requests) r m u k ls
   leaves_to b v u k ls h out x e told = subst (λ (z : List ℕ). Leaves (length v.requests) r m u z ls) e (leaves_row b v u ls h out x told)
 
@@ -395,7 +396,7 @@ module _ (r : Record) (m : List ℕ) (whole : length m ≡ size) (bank : r.pbr �
   abbrev branch_row : (taken page : Bool) → Ran
   branch_row t p = record {
     requests = O (at r.pbr r.pc) ∷ P (at r.pbr p₁) ∷ when t (I (at r.pbr p₂) ∷ when p (I (at r.pbr p₂) ∷ []));
-    out = Next (ended op false r.pbr (pick t to p₂) r.s r.dbr (regs_of r));
+    out = Ok (ended op false r.pbr (pick t to p₂) r.s r.dbr (regs_of r));
   }
 
   branch_row_lem : (d t p : Bool) → run 8 plain_bus r ≡ branch_row t p

@@ -1,5 +1,7 @@
 -- An instruction that is known cycle by cycle, over a memory that answers its reads and takes its writes.
 use Prim.Native.Nat.{ℕ, zero, suc, ◌+◌, ◌<◌}
+use Rattle.cpu.specs.declared.types.Refusal.{Refusal}
+use Rattle.std.proofs.Common.{Result, Ok, Err}
 use mathlib.Core.Path.{◌≡◌, refl, ap, sym, subst, ◌∙◌}
 use mathlib.Core.Bool.{Bool, true, false}
 use mathlib.Core.List.{List, [], ◌∷◌}
@@ -9,14 +11,9 @@ use borrow.Author.Tests.{lt-leb}
 use Rattle.words.specs.Words.{pick}
 use Rattle.cpu.specs.declared.types.Record.{Record}
 use Rattle.cpu.specs.declared.types.Request.{Request}
-use Rattle.cpu.specs.declared.types.Asked.{Asked}
-use Rattle.cpu.specs.declared.types.Asked.TheVariants.{Ask, No}
-use Rattle.cpu.specs.declared.types.Answer.{Answer}
-use Rattle.cpu.specs.declared.types.Answer.TheVariants.{Next, Refused}
 use Rattle.cpu.specs.declared.types.Refusal.TheVariants.{Bank}
 use Rattle.step.specs.Cycle.{micro_of, answered_by, request_of, answer_of}
 use Rattle.memory.specs.Turns.{bus_byte, crossed, answered, over, cycle_of, store_line}
-use Rattle.memory.specs.declared.types.Turn.TheVariants.{Done, Stop}
 use Rattle.sheet.specs.Run.{Ran, only, also, after, later, at_boundary, run}
 use Rattle.sheet.proofs.Walk.{false_true}
 use Rattle.run.specs.Runs.{End, more, joined, run_of, size}
@@ -26,7 +23,7 @@ use Rattle.run.proofs.TwoRuns.{cut}
 
 pub passes_none : (r : Record) (m : List ℕ) → Passes 0 r m r m
 unfolding run_of
-passes_none r m = record { number = refl; rec = refl; mem = refl; count = refl }
+passes_none r m = record { refusal = refl; rec = refl; mem = refl; count = refl }
 
 leaves_none : (r : Record) (m : List ℕ) → Leaves 0 r m r m []
 unfolding run_of
@@ -35,11 +32,11 @@ leaves_none r m = record { passes = passes_none r m; lines = refl }
 pub passes_both : (a b : ℕ) (r s u : Record) (m k l : List ℕ) → Passes a r m s k → Passes b s k u l → Passes (a + b) r m u l
 passes_both a b r s u m k l x y =
     let e : run_of (a + b) r m ≡ joined (run_of a r m) (run_of b s k) =
-    cut a b r m x.number
+    cut a b r m x.refusal
     ∙ ap (λ (v : Record). joined (run_of a r m) (run_of b v (run_of a r m).mem)) x.rec
     ∙ ap (λ (v : List ℕ). joined (run_of a r m) (run_of b s v)) x.mem in
     record {
-      number = ap (λ (v : End). v.number) e ∙ y.number;
+      refusal = ap (λ (v : End). v.refusal) e ∙ y.refusal;
       rec = ap (λ (v : End). v.rec) e ∙ y.rec;
       mem = ap (λ (v : End). v.mem) e ∙ y.mem;
       count = ap (λ (v : End). length v.lines) e ∙ length-append (run_of a r m).lines (run_of b s k).lines ∙ omega (arith, x.count, y.count);
@@ -66,13 +63,13 @@ stored_size : (w : Bool) (m : List ℕ) (i v : ℕ) → length (pick w (lib.List
 stored_size true m i v = length-set m i v
 stored_size false m i v = refl
 
-module _ (m : List ℕ) (whole : length m ≡ size) (r s : Record) (q : Request) (asks : request_of r ≡ Ask q) (goes : answer_of r (bus_byte q m) ≡ Next s)
+module _ (m : List ℕ) (whole : length m ≡ size) (r s : Record) (q : Request) (asks : request_of r ≡ Ok q) (goes : answer_of r (bus_byte q m) ≡ Ok s)
     (inside : q.addr < size) where
-  cycle_done : cycle_of r m ≡ Done (crossed q (bus_byte q m)) s
+  cycle_done : cycle_of r m ≡ Ok (crossed q (bus_byte q m), s)
   unfolding cycle_of request_of answer_of
   cycle_done =
-      ap (λ (a : Asked). over a (micro_of r) r m) asks
-      ∙ ap (λ (t : Bool). pick t (Stop Bank) (answered (crossed q (bus_byte q m)) (answered_by (micro_of r) r (bus_byte q m))))
+      ap (λ (a : Result Request Refusal). over a (micro_of r) r m) asks
+      ∙ ap (λ (t : Bool). pick t (Err Bank) (answered (crossed q (bus_byte q m)) (answered_by (micro_of r) r (bus_byte q m))))
       (lt-leb (length m) q.addr (rw whole inside))
       ∙ ap (answered (crossed q (bus_byte q m))) goes
 
@@ -82,7 +79,7 @@ module _ (m : List ℕ) (whole : length m ≡ size) (r s : Record) (q : Request)
       let e : run_of (suc n) r m ≡ more (crossed q (bus_byte q m)) (run_of n s (stores m q)) = run_done n r s m _ cycle_done in
       record {
         passes = record {
-          number = ap (λ (v : End). v.number) e ∙ x.passes.number;
+          refusal = ap (λ (v : End). v.refusal) e ∙ x.passes.refusal;
           rec = ap (λ (v : End). v.rec) e ∙ x.passes.rec;
           mem = ap (λ (v : End). v.mem) e ∙ x.passes.mem;
           count = ap (λ (v : End). length v.lines) e ∙ ap suc x.passes.count;
@@ -91,32 +88,32 @@ module _ (m : List ℕ) (whole : length m ≡ size) (r s : Record) (q : Request)
       }
 
 -- ---- up to the instruction's end
-accepts : Answer → Bool
-accepts (Next s) = true
-accepts (Refused n) = false
+accepts : Result Record Refusal → Bool
+accepts (Ok s) = true
+accepts (Err n) = false
 
-not_refused : (s : Record) (a : Answer) → accepts a ≡ false → a ≡ Next s → ⊥
+not_refused : (s : Record) (a : Result Record Refusal) → accepts a ≡ false → a ≡ Ok s → ⊥
 unfolding accepts
 not_refused s a h e = false_true (sym h ∙ ap accepts e)
 
-left : Record → Answer → Record
-left r (Next s) = s
-left r (Refused n) = r
+left : Record → Result Record Refusal → Record
+left r (Ok s) = s
+left r (Err n) = r
 
-same_record : (r s : Record) → Next r ≡ Next s → r ≡ s
+same_record : (r s : Record) → ◌≡◌ {A = Result Record Refusal} (Ok r) (Ok s) → r ≡ s
 unfolding left
 same_record r s e = ap (left s) e
 
 -- what the law says of n cycles
 abbrev Law : ℕ → (ℕ → ℕ) → Type 0
-Law n b = (m : List ℕ) → length m ≡ size → (r u : Record) → (run n b r).out ≡ Next u → Answers m b (run n b r).requests
+Law n b = (m : List ℕ) → length m ≡ size → (r u : Record) → (run n b r).out ≡ Ok u → Answers m b (run n b r).requests
     → Leaves (length (run n b r).requests) r m u (stores_all m (run n b r).requests) (lines_all m (run n b r).requests)
 
 module _ (n : ℕ) (b : ℕ → ℕ) (go : Law n (later b)) (m : List ℕ) (whole : length m ≡ size) (r u : Record) where
   -- by whether the instruction ends with this cycle
-  leaves_pick : (s : Record) (q : Request) (e : Bool) → request_of r ≡ Ask q → answer_of r (b 0) ≡ Next s
-      → let v : Ran = pick e (only q (Next s)) (also q (run n (later b) s)) in
-      v.out ≡ Next u → Answers m b v.requests → Leaves (length v.requests) r m u (stores_all m v.requests) (lines_all m v.requests)
+  leaves_pick : (s : Record) (q : Request) (e : Bool) → request_of r ≡ Ok q → answer_of r (b 0) ≡ Ok s
+      → let v : Ran = pick e (only q (Ok s)) (also q (run n (later b) s)) in
+      v.out ≡ Ok u → Answers m b v.requests → Leaves (length v.requests) r m u (stores_all m v.requests) (lines_all m v.requests)
   leaves_pick s q true asks goes out x =
       leaves_cycle m whole r s q asks (ap (answer_of r) (sym x.1) ∙ goes) x.0 0 u (stores m q) []
       (subst (λ (v : Record). Leaves 0 s (stores m q) v (stores m q) []) (same_record s u out) (leaves_none s (stores m q)))
@@ -125,13 +122,13 @@ module _ (n : ℕ) (b : ℕ → ℕ) (go : Law n (later b)) (m : List ℕ) (whol
       (go (stores m q) (stored_size q.write m q.addr (bus_byte q m) ∙ whole) s u out x.2)
 
   -- by what is asked and answered
-  leaves_after : (q : Asked) (a : Answer) → request_of r ≡ q → answer_of r (b 0) ≡ a
+  leaves_after : (q : Result Request Refusal) (a : Result Record Refusal) → request_of r ≡ q → answer_of r (b 0) ≡ a
       → let v : Ran = after q a (run n (later b)) in
-      v.out ≡ Next u → Answers m b v.requests → Leaves (length v.requests) r m u (stores_all m v.requests) (lines_all m v.requests)
+      v.out ≡ Ok u → Answers m b v.requests → Leaves (length v.requests) r m u (stores_all m v.requests) (lines_all m v.requests)
   unfolding accepts
-  leaves_after (No k) a asks goes out x = absurd (not_refused u (Refused k) refl out)
-  leaves_after (Ask q) (Refused k) asks goes out x = absurd (not_refused u (Refused k) refl out)
-  leaves_after (Ask q) (Next s) asks goes out x = leaves_pick s q (at_boundary s) asks goes out x
+  leaves_after (Err k) a asks goes out x = absurd (not_refused u (Err k) refl out)
+  leaves_after (Ok q) (Err k) asks goes out x = absurd (not_refused u (Err k) refl out)
+  leaves_after (Ok q) (Ok s) asks goes out x = leaves_pick s q (at_boundary s) asks goes out x
 
 -- What cycle after cycle answers is what the run over the memory does.
 pub leaves_run : (n : ℕ) (b : ℕ → ℕ) → Law n b

@@ -1,63 +1,41 @@
 // Refusals 1 and 2 once, then whole instructions as far as they go, and cycles. Well-formedness is tested once: every cycle keeps it.
-ghost use Rattle.std.specs.Prelude.{◌≡◌, true, ◌<◌, length};
+ghost use Rattle.std.specs.Prelude.{◌≡◌, true, ◌<◌};
 ghost use Rattle.cpu.specs.Record.{well_formed};
-ghost use Rattle.stride.specs.Strides.{fresh};
-ghost use Rattle.run.specs.Runs.{told, outcome, malformed, run_of, whole_run, size};
+ghost use Rattle.run.specs.Runs.{told, outcome, malformed, run_of, whole_run};
 ghost use Rattle.run.specs.Passes.{Goes};
-ghost use Rattle.run.specs.Far.{strides_far, hauls_far, ahead_far};
+ghost use Rattle.run.specs.Far.{far, ahead_far};
 
-use crate::types::Outcome;
+use crate::pace::{Hauling, Pace, Striding};
+use crate::types::{Bank, Outcome};
 use cpu::record::well_formed;
-use cpu::types::Record;
-use haul::haul;
-use memory::turn::{refused_by, turn};
-use memory::types::Turn;
+use cpu::types::{Record, Refusal};
+use memory::turn::turn;
 use step::well_micro;
-use stride::stride::{cleared, is_fresh, stretch_of, stride};
+use stride::stride::{cleared, is_fresh, stretch_of};
 use stride::types::Stretch;
 
-// How a run ended: its refusal's number or 0, the cycles that were completed, and the record after them.
-pub fn ended(refusal: u8, cycles: u32, after: Record) -> Outcome
+// How a run ended: its refusal if it was refused, the cycles that were completed, and the record after them.
+pub fn ended(refusal: Option<Refusal>, cycles: u32, after: Record) -> Outcome
     ensures { result ≡ outcome refusal cycles after }
 {
     Outcome {
-        refusal: refusal,
-        cycles: cycles,
-        after: after,
+        refusal,
+        cycles,
+        after,
     }
 }
 
-// As many instructions as there is room for; a cycle at least is left.
-fn strides(r: Record, mem: &mut [u8], budget: u32) -> Stretch
-    requires { (length mem.old ≡ size) × (well_formed r ≡ true) × (fresh r ≡ true) × (0 < budget) }
+// As many as there is room for; a cycle at least is left.
+fn paces<P: Pace>(r: Record, mem: &mut Bank, budget: u32) -> Stretch
+    requires { (well_formed r ≡ true) × (P.start r ≡ true) × (0 < budget) }
     ensures goes { Goes r mem.old result mem.new }
     ensures less { result.cycles < budget }
-    ensures far { result.cycles ≡ strides_far budget r mem.old }
-{
-    let mut at = cleared(r);
-    let mut left = budget;
-    while left > 7 {
-        let t = stride(at, mem);
-        at = t.after;
-        if t.cycles == 0 {
-            return stretch_of(budget - left, at);
-        }
-        left -= t.cycles;
-    }
-    stretch_of(budget - left, at)
-}
-
-// As many bytes as there is room for, likewise.
-fn hauls(r: Record, mem: &mut [u8], budget: u32) -> Stretch
-    requires { (length mem.old ≡ size) × (well_formed r ≡ true) × (0 < budget) }
-    ensures goes { Goes r mem.old result mem.new }
-    ensures less { result.cycles < budget }
-    ensures far { result.cycles ≡ hauls_far budget r mem.old }
+    ensures far { result.cycles ≡ far P.turn P.memory P.FLOOR budget budget r mem.old }
 {
     let mut at = r;
     let mut left = budget;
-    while left > 8 {
-        let t = haul(at, mem);
+    while left > P::FLOOR {
+        let t = P::go(at, mem);
         at = t.after;
         if t.cycles == 0 {
             return stretch_of(budget - left, at);
@@ -68,8 +46,8 @@ fn hauls(r: Record, mem: &mut [u8], budget: u32) -> Stretch
 }
 
 // Whole instructions, or bytes of a move, as far as they go: nowhere inside an instruction.
-fn ahead(r: Record, mem: &mut [u8], budget: u32) -> Stretch
-    requires { (length mem.old ≡ size) × (well_formed r ≡ true) × (0 < budget) }
+fn ahead(r: Record, mem: &mut Bank, budget: u32) -> Stretch
+    requires { (well_formed r ≡ true) × (0 < budget) }
     ensures goes { Goes r mem.old result mem.new }
     ensures less { result.cycles < budget }
     ensures far { result.cycles ≡ ahead_far budget r mem.old }
@@ -77,17 +55,16 @@ fn ahead(r: Record, mem: &mut [u8], budget: u32) -> Stretch
     if r.tcu != 0 {
         return stretch_of(0, r);
     }
-    let start = is_fresh(r);
-    if start {
-        strides(r, mem, budget)
+    if is_fresh(r) {
+        paces::<Striding>(cleared(r), mem, budget)
     } else {
-        hauls(r, mem, budget)
+        paces::<Hauling>(r, mem, budget)
     }
 }
 
 // The cycles of a run whose memory, budget and record are found good: whole instructions as far as they go, then a cycle.
-fn cycles(rec: Record, mem: &mut [u8], budget: u32) -> Outcome
-    requires { (length mem.old ≡ size) × (well_formed rec ≡ true) }
+fn cycles(rec: Record, mem: &mut Bank, budget: u32) -> Outcome
+    requires { (well_formed rec ≡ true) }
     ensures { (result ≡ told (run_of budget rec mem.old)) × (mem.new ≡ (run_of budget rec mem.old).mem) }
 {
     let mut at = rec;
@@ -97,13 +74,13 @@ fn cycles(rec: Record, mem: &mut [u8], budget: u32) -> Outcome
         at = far.after;
         done += far.cycles;
         let t = turn(well_micro(at), at, mem);
-        let Turn::Done(_, next) = t else {
-            return ended(refused_by(t), done, at);
+        let Ok((_, next)) = t else {
+            return ended(t.err(), done, at);
         };
         at = next;
         done += 1;
     }
-    ended(0, done, at)
+    ended(None, done, at)
 }
 
 // A record that isn't well formed: 4, if a cycle is asked for at all.
@@ -111,9 +88,9 @@ fn unfit(rec: Record, budget: u32) -> Outcome
     ensures { result ≡ malformed budget rec }
 {
     if budget == 0 {
-        ended(0, 0, rec)
+        ended(None, 0, rec)
     } else {
-        ended(4, 0, rec)
+        ended(Some(Refusal::Malformed), 0, rec)
     }
 }
 
@@ -122,15 +99,14 @@ fn unfit(rec: Record, budget: u32) -> Outcome
 pub fn run(rec: Record, mem: &mut [u8], budget: u32) -> Outcome
     ensures { (result ≡ told (whole_run budget rec mem.old)) × (mem.new ≡ (whole_run budget rec mem.old).mem) }
 {
-    if mem.len() != 65536 {
-        return ended(1, 0, rec);
-    }
+    let Some(whole) = mem.as_mut_array() else {
+        return ended(Some(Refusal::Memory), 0, rec);
+    };
     if 1_000_000 < budget {
-        return ended(2, 0, rec);
+        return ended(Some(Refusal::Budget), 0, rec);
     }
-    let well = well_formed(rec);
-    if well {
-        cycles(rec, mem, budget)
+    if well_formed(rec) {
+        cycles(rec, whole, budget)
     } else {
         unfit(rec, budget)
     }

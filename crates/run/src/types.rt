@@ -1,9 +1,12 @@
-// How a run ended.
-use cpu::types::Record;
+// What a run goes over, and how it ended.
+use cpu::types::{Record, Refusal};
+
+// A memory that stands for bank 0.
+pub type Bank = [u8; 65536];
 
 #[derive(Clone, Copy)]
 pub struct Outcome {
-    pub refusal: u8, // document 01's number, or 0 for none
+    pub refusal: Option<Refusal>,
     pub cycles: u32, // how many were completed
     pub after: Record,
 }

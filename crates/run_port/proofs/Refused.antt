@@ -1,5 +1,6 @@
 -- Whoever lends a packed record gets the core's own answers; what is refused before any cycle leaves every lent byte as it was.
 use Prim.Native.Nat.{ℕ, ◌≤◌, ◌<◌}
+use Rattle.std.proofs.Common.{Option, Some, None}
 use mathlib.Core.Path.{◌≡◌, refl, sym, ◌∙◌}
 use mathlib.Core.Bool.{false}
 use mathlib.Core.List.{List}
@@ -9,8 +10,6 @@ use Rattle.cpu.specs.declared.types.Record.{Record}
 use Rattle.run.specs.Runs.{whole_run, size, most}
 use Rattle.run.proofs.Laws.{refused_1, refused_2}
 use Rattle.packed.specs.Packed.{pack, unpacked, is_packed}
-use Rattle.packed.specs.declared.types.Unpacked.{Unpacked}
-use Rattle.packed.specs.declared.types.Unpacked.TheVariants.{Good, Bad}
 use Rattle.packed.proofs.RoundTrip.{found_again}
 use Rattle.numbers.specs.Numbers.{run_number}
 use Rattle.numbers.proofs.Bytes.{Bytes, same_bytes, unfound}
@@ -25,13 +24,13 @@ abbrev pub still : ℕ → (b m : List ℕ) → Ran
 still k b m = record { answer = run_number k 0; bytes = b; mem = m }
 
 module _ (b m : List ℕ) (n : ℕ) (h : Bytes b) where
-  by_1 : (u : Unpacked) → u ≡ unpacked b → (length m ≡ size → ⊥) → run_bytes b m n ≡ still 1 b m
-  by_1 (Good r) e k = run_good b m n (Good r) e r refl ∙ rw (refused_1 n r m k, same_bytes b r h (sym e))
-  by_1 Bad e k = run_bad b m n Bad e refl ∙ rw (ne_eqb (length m) size k)
+  by_1 : (u : Option Record) → u ≡ unpacked b → (length m ≡ size → ⊥) → run_bytes b m n ≡ still 1 b m
+  by_1 (Some r) e k = run_good b m n (Some r) e r refl ∙ rw (refused_1 n r m k, same_bytes b r h (sym e))
+  by_1 None e k = run_bad b m n None e refl ∙ rw (ne_eqb (length m) size k)
 
-  by_2 : (u : Unpacked) → u ≡ unpacked b → length m ≡ size → most < n → run_bytes b m n ≡ still 2 b m
-  by_2 (Good r) e k l = run_good b m n (Good r) e r refl ∙ rw (refused_2 n r m k l, same_bytes b r h (sym e))
-  by_2 Bad e k l = run_bad b m n Bad e refl ∙ rw (eq-eqb (length m) size k, lt-leb n most l)
+  by_2 : (u : Option Record) → u ≡ unpacked b → length m ≡ size → most < n → run_bytes b m n ≡ still 2 b m
+  by_2 (Some r) e k l = run_good b m n (Some r) e r refl ∙ rw (refused_2 n r m k l, same_bytes b r h (sym e))
+  by_2 None e k l = run_bad b m n None e refl ∙ rw (eq-eqb (length m) size k, lt-leb n most l)
 
   pub run_1 : (length m ≡ size → ⊥) → run_bytes b m n ≡ still 1 b m
   run_1 k = by_1 (unpacked b) refl k

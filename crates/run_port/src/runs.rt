@@ -2,22 +2,22 @@
 ghost use Rattle.std.specs.Prelude.{◌≡◌};
 ghost use Rattle.run_port.specs.Port.{unfit, run_bytes};
 
+use cpu::types::Refusal;
 use numbers::numbers::run_number;
 use packed::bytes::{pack, put, unpack};
-use packed::types::Unpacked;
 use run::run::run;
 
 // Why a record that isn't a packed one isn't run: what comes before it in document 01's order, or 4.
-fn unfit_by(len: usize, budget: u32) -> u8
+fn unfit_by(len: usize, budget: u32) -> Refusal
     ensures { result ≡ unfit len budget }
 {
     if len != 65536 {
-        return 1;
+        return Refusal::Memory;
     }
     if 1_000_000 < budget {
-        return 2;
+        return Refusal::Budget;
     }
-    4
+    Refusal::Malformed
 }
 
 // At most `budget` cycles; the record that they come to takes the place of the lent one.
@@ -27,8 +27,8 @@ pub fn glavorint_run(rec: &mut [u8], mem: &mut [u8], budget: u32) -> u64
         × (mem.new ≡ (run_bytes rec.old mem.old budget).mem) }
 {
     let u = unpack(rec);
-    let Unpacked::Good(r) = u else {
-        return run_number(unfit_by(mem.len(), budget), 0);
+    let Some(r) = u else {
+        return run_number(Some(unfit_by(mem.len(), budget)), 0);
     };
     let o = run(r, mem, budget);
     let after = o.after;

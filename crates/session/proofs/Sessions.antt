@@ -1,5 +1,8 @@
 -- What a bench may rely on: a refused step changes nothing, one that isn't refused counts, and two cycles in a row are a run of two.
 use Prim.Native.Nat.{ℕ, zero, suc, ◌+◌, ◌≤◌, ◌<◌}
+use Rattle.cpu.specs.declared.types.Request.{Request}
+use Rattle.cpu.specs.declared.types.Refusal.{Refusal}
+use Rattle.std.proofs.Common.{Option, Some, None, Result, Ok, Err}
 use mathlib.Core.Path.{◌≡◌, refl, sym, ◌∙◌, ap}
 use mathlib.Core.Bool.{Bool, true, false}
 use mathlib.Core.List.{List}
@@ -11,19 +14,15 @@ use Rattle.words.specs.Words.{pick}
 use Rattle.cpu.specs.Record.{number_of}
 use Rattle.cpu.specs.declared.types.Record.{Record}
 use Rattle.cpu.specs.declared.types.Refusal.TheVariants.{Memory, Budget}
-use Rattle.cpu.specs.declared.types.Answer.{Answer}
-use Rattle.cpu.specs.declared.types.Answer.TheVariants.{Next, Refused}
 use Rattle.step.specs.Cycle.{answer_of}
 use Rattle.memory.specs.Turns.{cycle_of, store_line}
-use Rattle.memory.specs.declared.types.Turn.{Turn}
-use Rattle.memory.specs.declared.types.Turn.TheVariants.{Done, Stop}
 use Rattle.run.specs.Runs.{End, ends, run_of, whole_run, size, most}
 use Rattle.run.proofs.Laws.{run_done, run_stop, run_none, accepted, refused_1}
-use Rattle.run.proofs.Counted.{refusal_numbered}
+use Rattle.run.proofs.Counted.{refusal_some}
 use Rattle.run.proofs.TwoRuns.{cut}
 use Rattle.session.specs.declared.types.Session.{Session}
 use Rattle.session.specs.declared.types.Stepped.{Stepped}
-use Rattle.session.specs.Sessions.{top, counted, counted_on, came_to, answered_to, cycled_over, memory_over}
+use Rattle.session.specs.Sessions.{top, counted, counted_on, came_to, answered_to, cycled_over, memory_over, counted_if, one_cycle}
 
 -- ---- the count
 
@@ -62,21 +61,21 @@ counted_full (suc k) n h g = let i = never_wraps n h in counted_full k (counted 
 
 -- ---- by an answered byte
 
-came_kept : (s : Session) (a : Answer) → ((came_to s a).number ≡ 0 → ⊥) → (came_to s a).session ≡ s
-came_kept s (Next r) h = absurd (h refl)
-came_kept s (Refused n) h = refl
+came_kept : (s : Session) (a : Result Record Refusal) → ((came_to s a).refusal ≡ None → ⊥) → (came_to s a).session ≡ s
+came_kept s (Ok r) h = absurd (h refl)
+came_kept s (Err n) h = refl
 
 -- a refused byte leaves the session as it was
-pub refused_byte : (s : Session) (b : ℕ) → ((answered_to s b).number ≡ 0 → ⊥) → (answered_to s b).session ≡ s
+pub refused_byte : (s : Session) (b : ℕ) → ((answered_to s b).refusal ≡ None → ⊥) → (answered_to s b).session ≡ s
 unfolding answered_to
 refused_byte s b h = came_kept s (answer_of s.at b) h
 
-came_counted : (s : Session) (a : Answer) → (came_to s a).number ≡ 0 → (came_to s a).session.cycles ≡ counted s.cycles
-came_counted s (Next r) h = refl
-came_counted s (Refused n) h = absurd (refusal_numbered n h)
+came_counted : (s : Session) (a : Result Record Refusal) → (came_to s a).refusal ≡ None → (came_to s a).session.cycles ≡ counted s.cycles
+came_counted s (Ok r) h = refl
+came_counted s (Err n) h = absurd (refusal_some n h)
 
 -- one that isn't refused counts
-pub byte_counts : (s : Session) (b : ℕ) → (answered_to s b).number ≡ 0 → (answered_to s b).session.cycles ≡ counted s.cycles
+pub byte_counts : (s : Session) (b : ℕ) → (answered_to s b).refusal ≡ None → (answered_to s b).session.cycles ≡ counted s.cycles
 unfolding answered_to
 byte_counts s b h = came_counted s (answer_of s.at b) h
 
@@ -84,11 +83,11 @@ byte_counts s b h = came_counted s (answer_of s.at b) h
 
 -- a run that leaves record and memory as they were, if it is refused
 abbrev Keeps : Record → List ℕ → End → Type 0
-Keeps r m e = (e.number ≡ 0 → ⊥) → (e.rec ≡ r) × (e.mem ≡ m)
+Keeps r m e = (e.refusal ≡ None → ⊥) → (e.rec ≡ r) × (e.mem ≡ m)
 
-kept_turn : (r : Record) (m : List ℕ) (t : Turn) → cycle_of r m ≡ t → Keeps r m (run_of 1 r m)
-kept_turn r m (Done l s) e h = absurd (h (rw (run_done 0 r s m l e, run_none s (store_line l m))))
-kept_turn r m (Stop k) e h = let f = run_stop 0 r m k e in (rw f, rw f)
+kept_turn : (r : Record) (m : List ℕ) (t : Result (Request × Record) Refusal) → cycle_of r m ≡ t → Keeps r m (run_of 1 r m)
+kept_turn r m (Ok (l, s)) e h = absurd (h (rw (run_done 0 r s m l e, run_none s (store_line l m))))
+kept_turn r m (Err k) e h = let f = run_stop 0 r m k e in (rw f, rw f)
 
 kept_either : (b : Bool) (r : Record) (m : List ℕ) (e f : End) → Keeps r m e → Keeps r m f → Keeps r m (pick b e f)
 kept_either true r m e f g h = g
@@ -97,18 +96,22 @@ kept_either false r m e f g h = h
 kept_run : (r : Record) (m : List ℕ) → Keeps r m (whole_run 1 r m)
 unfolding whole_run
 kept_run r m =
-    kept_either (eqb (length m) size) r m (pick (leb 1 most) (run_of 1 r m) (ends (number_of Budget) r m)) (ends (number_of Memory) r m)
-    (kept_either (leb 1 most) r m (run_of 1 r m) (ends (number_of Budget) r m) (kept_turn r m (cycle_of r m) refl) (λ _. (refl, refl))) (λ _. (refl, refl))
+    kept_either (eqb (length m) size) r m (pick (leb 1 most) (run_of 1 r m) (ends (Some Budget) r m)) (ends (Some Memory) r m)
+    (kept_either (leb 1 most) r m (run_of 1 r m) (ends (Some Budget) r m) (kept_turn r m (cycle_of r m) refl) (λ _. (refl, refl))) (λ _. (refl, refl))
+
+uncounted : (x : Option Refusal) (c : ℕ) → (x ≡ None → ⊥) → counted_if x c ≡ c
+uncounted None c h = absurd (h refl)
+uncounted (Some n) c h = refl
 
 -- a refused cycle leaves session and memory as they were
-pub refused_cycle : (s : Session) (m : List ℕ) → ((cycled_over s m).number ≡ 0 → ⊥) → ((cycled_over s m).session ≡ s) × (memory_over s m ≡ m)
+pub refused_cycle : (s : Session) (m : List ℕ) → ((cycled_over s m).refusal ≡ None → ⊥) → ((cycled_over s m).session ≡ s) × (memory_over s m ≡ m)
 unfolding cycled_over memory_over
-refused_cycle s m h = let k = kept_run s.at m h in (rw (k.0, ne_eqb _ _ h), k.1)
+refused_cycle s m h = let k = kept_run s.at m h in (rw (k.0, uncounted (one_cycle s m).refusal s.cycles h), k.1)
 
 -- one that isn't refused counts
-pub cycle_counts : (s : Session) (m : List ℕ) → (cycled_over s m).number ≡ 0 → (cycled_over s m).session.cycles ≡ counted s.cycles
+pub cycle_counts : (s : Session) (m : List ℕ) → (cycled_over s m).refusal ≡ None → (cycled_over s m).session.cycles ≡ counted s.cycles
 unfolding cycled_over
-cycle_counts s m h = rw (eq-eqb _ _ h)
+cycle_counts s m h = ap (λ (x : Option Refusal). counted_if x s.cycles) h
 
 -- ---- two cycles in a row
 
@@ -116,21 +119,21 @@ stored : (b : Bool) (m : List ℕ) (a v : ℕ) → length (pick b (set m a v) m)
 stored true m a v = length-set m a v
 stored false m a v = refl
 
-same_room : (r : Record) (m : List ℕ) (t : Turn) → cycle_of r m ≡ t → length (run_of 1 r m).mem ≡ length m
-same_room r m (Done l s) e = rw (run_done 0 r s m l e, run_none s (store_line l m)) (stored l.write m l.addr l.byte)
-same_room r m (Stop k) e = rw (run_stop 0 r m k e)
+same_room : (r : Record) (m : List ℕ) (t : Result (Request × Record) Refusal) → cycle_of r m ≡ t → length (run_of 1 r m).mem ≡ length m
+same_room r m (Ok (l, s)) e = rw (run_done 0 r s m l e, run_none s (store_line l m)) (stored l.write m l.addr l.byte)
+same_room r m (Err k) e = rw (run_stop 0 r m k e)
 
-sized : (r : Record) (m : List ℕ) (b : Bool) → eqb (length m) size ≡ b → (whole_run 1 r m).number ≡ 0 → length m ≡ size
+sized : (r : Record) (m : List ℕ) (b : Bool) → eqb (length m) size ≡ b → (whole_run 1 r m).refusal ≡ None → length m ≡ size
 sized r m true e h = eqb-true _ _ e
-sized r m false e h = absurd (refusal_numbered Memory (rw (refused_1 1 r m (eqb-false _ _ e)) at h))
+sized r m false e h = absurd (refusal_some Memory (rw (refused_1 1 r m (eqb-false _ _ e)) at h))
 
 -- the second cycle ends as a run of two does
 pub record Twice (e : End) (t : Stepped) (m : List ℕ) : Type 0 where
-  pub number : t.number ≡ e.number
+  pub refusal : t.refusal ≡ e.refusal
   pub rec : t.session.at ≡ e.rec
   pub mem : m ≡ e.mem
 
-pub two_cycles : (s : Session) (m : List ℕ) → (cycled_over s m).number ≡ 0 → Twice (whole_run 2 s.at m) (cycled_over (cycled_over s m).session (memory_over s m)) (memory_over (cycled_over s m).session (memory_over s m))
+pub two_cycles : (s : Session) (m : List ℕ) → (cycled_over s m).refusal ≡ None → Twice (whole_run 2 s.at m) (cycled_over (cycled_over s m).session (memory_over s m)) (memory_over (cycled_over s m).session (memory_over s m))
 unfolding cycled_over memory_over
 two_cycles s m h =
     let z = sized s.at m (eqb (length m) size) refl h in
@@ -140,7 +143,7 @@ two_cycles s m h =
     let again = ap (λ (e : End). whole_run 1 e.rec e.mem) one ∙ next in
     let whole = accepted 2 s.at m z (omega arith) ∙ cut 1 1 s.at m (rw one at h) in
     record {
-      number = ap (λ (e : End). e.number) again ∙ sym (ap (λ (e : End). e.number) whole);
+      refusal = ap (λ (e : End). e.refusal) again ∙ sym (ap (λ (e : End). e.refusal) whole);
       rec = ap (λ (e : End). e.rec) again ∙ sym (ap (λ (e : End). e.rec) whole);
       mem = ap (λ (e : End). e.mem) again ∙ sym (ap (λ (e : End). e.mem) whole);
     }

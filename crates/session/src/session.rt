@@ -1,15 +1,12 @@
 // The work is done by value. The two entries that change a lent session only take it apart and put it back.
 ghost use Rattle.std.specs.Prelude.{◌≡◌};
 ghost use Rattle.step.specs.Cycle.{request_of};
-ghost use Rattle.step.specs.Answers.{answer_number};
-ghost use Rattle.session.specs.Sessions.{counted, counted_on, started, stepped, answered_to, cycled_by, memory_by, cycled_over, memory_over};
+ghost use Rattle.session.specs.Sessions.{counted, counted_on, session_at, started, stepped, told_by, answered_to, cycled_by, memory_by, cycled_over, memory_over};
 
 use crate::types::{Session, Stepped};
-use cpu::record::number;
-use cpu::types::{Answer, Asked, Record};
+use cpu::types::{Record, Refusal, Request};
 use cycles::types::Micro;
-use memory::turn::{refused_by, turn};
-use memory::types::Turn;
+use memory::turn::turn;
 use step::{answer, next_micro, request};
 
 // The greatest count.
@@ -23,7 +20,7 @@ pub fn start(at: Record) -> Session
 }
 
 // What the session asks of the bus, or the refusal: 4, 5 or 6.
-pub fn asking(s: Session) -> Asked
+pub fn asking(s: Session) -> Result<Request, Refusal>
     ensures { result ≡ request_of s.at }
 {
     let at = s.at;
@@ -45,13 +42,21 @@ pub fn count_on(n: u64, more: u32) -> u64
     if n <= TOP - k { n + k } else { TOP }
 }
 
-fn number_of(a: Answer) -> u8
-    ensures { result ≡ answer_number a }
+// The session one cycle on.
+fn gone_on(s: Session, next: Record) -> Session
+    ensures { result ≡ session_at next (counted s.cycles) }
 {
-    match a {
-        Answer::Next(_) => 0,
-        Answer::Refused(n) => number(n),
+    Session {
+        at: next,
+        cycles: count(s.cycles),
     }
+}
+
+// A session after a cycle, or as it was with the refusal.
+fn stepped(session: Session, refusal: Option<Refusal>) -> Stepped
+    ensures { result ≡ stepped session refusal }
+{
+    Stepped { session, refusal }
 }
 
 // The session after the answered byte.
@@ -60,30 +65,10 @@ pub fn answered(s: Session, b: u8) -> Stepped
 {
     let at = s.at;
     let a = answer(at, b);
-    let Answer::Next(next) = a else {
-        return Stepped {
-            session: s,
-            number: number_of(a),
-        };
+    let Ok(next) = a else {
+        return stepped(s, a.err());
     };
-    let cycles = count(s.cycles);
-    Stepped {
-        session: Session {
-            at: next,
-            cycles: cycles,
-        },
-        number: 0,
-    }
-}
-
-// The session as it was, with a refusal's number.
-fn standing(s: Session, number: u8) -> Stepped
-    ensures { result ≡ stepped s number }
-{
-    Stepped {
-        session: s,
-        number: number,
-    }
+    stepped(gone_on(s, next), None)
 }
 
 // The session after what `m` does over a lent memory that stands for bank 0.
@@ -91,21 +76,14 @@ fn cycled_by(m: Micro, s: Session, mem: &mut [u8]) -> Stepped
     ensures { (result ≡ cycled_by m s mem.old) × (mem.new ≡ memory_by m s mem.old) }
 {
     if mem.len() != 65536 {
-        return standing(s, 1);
+        return stepped(s, Some(Refusal::Memory));
     }
     let at = s.at;
     let t = turn(m, at, mem);
-    let Turn::Done(_, next) = t else {
-        return standing(s, refused_by(t));
+    let Ok((_, next)) = t else {
+        return stepped(s, t.err());
     };
-    let cycles = count(s.cycles);
-    Stepped {
-        session: Session {
-            at: next,
-            cycles: cycles,
-        },
-        number: 0,
-    }
+    stepped(gone_on(s, next), None)
 }
 
 // The session after a cycle over a lent memory that stands for bank 0.
@@ -116,22 +94,32 @@ pub fn cycled(s: Session, mem: &mut [u8]) -> Stepped
     cycled_by(next_micro(at), s, mem)
 }
 
-// Changes the session by the answered byte and gives the refusal's number, or 0; a refused session stays as it was.
-pub fn answer_byte(s: &mut Session, b: u8) -> u8
-    ensures { (result ≡ (answered_to s.old b).number) × (s.new ≡ (answered_to s.old b).session) }
+// Whether a step was refused.
+fn told(refusal: Option<Refusal>) -> Result<(), Refusal>
+    ensures { result ≡ told_by refusal }
+{
+    match refusal {
+        None => Ok(()),
+        Some(n) => Err(n),
+    }
+}
+
+// Changes the session by the answered byte; a refused session stays as it was.
+pub fn answer_byte(s: &mut Session, b: u8) -> Result<(), Refusal>
+    ensures { (result ≡ told_by (answered_to s.old b).refusal) × (s.new ≡ (answered_to s.old b).session) }
 {
     let t = answered(*s, b);
     *s = t.session;
-    t.number
+    told(t.refusal)
 }
 
 // The same by a cycle over a lent memory.
-pub fn do_cycle(s: &mut Session, mem: &mut [u8]) -> u8
-    ensures { (result ≡ (cycled_over s.old mem.old).number)
+pub fn do_cycle(s: &mut Session, mem: &mut [u8]) -> Result<(), Refusal>
+    ensures { (result ≡ told_by (cycled_over s.old mem.old).refusal)
         × (s.new ≡ (cycled_over s.old mem.old).session)
         × (mem.new ≡ memory_over s.old mem.old) }
 {
     let t = cycled(*s, mem);
     *s = t.session;
-    t.number
+    told(t.refusal)
 }

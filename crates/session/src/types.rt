@@ -1,5 +1,5 @@
 // What a bench lends from cycle to cycle.
-use cpu::types::Record;
+use cpu::types::{Record, Refusal};
 
 #[derive(Clone, Copy)]
 pub struct Session {
@@ -11,5 +11,5 @@ pub struct Session {
 #[derive(Clone, Copy)]
 pub struct Stepped {
     pub session: Session,
-    pub number: u8, // document 01's number of the refusal, or 0 for none
+    pub refusal: Option<Refusal>,
 }

@@ -1,20 +1,19 @@
 -- A session comes back from its bytes, and bytes that are a session from their session: a refused cycle leaves them as they were.
 use Prim.Native.Nat.{ℕ, zero, suc, ◌+◌, ◌*◌, ◌/◌, ◌%◌, ◌<◌}
+use Rattle.std.proofs.Common.{Option, Some, None}
 use mathlib.Core.Path.{◌≡◌, refl, ap, ◌∙◌}
 use mathlib.Core.List.{List, [], ◌∷◌, ◌++◌}
 use native.Mathlib.Omega.{arith}
 use borrow.Author.Tests.{eq-eqb}
 use lib.ListN.{length, take, drop, take-append-drop}
 use lib.Seq.{take_at}
+use Rattle.cpu.specs.Record.{number_in}
 use Rattle.cpu.specs.declared.types.Record.{Record}
 use Rattle.session.specs.Sessions.{session_at, answered_to, cycled_over}
 use Rattle.session.proofs.Sessions.{refused_byte, refused_cycle}
 use Rattle.session.specs.declared.types.Session.{Session}
 use Rattle.packed.specs.Packed.{pack, unpacked, byte_at}
-use Rattle.packed.specs.declared.types.Unpacked.{Unpacked}
-use Rattle.packed.specs.declared.types.Unpacked.TheVariants as record_is
 use Rattle.packed.proofs.RoundTrip.{found_again, pack_length, from_drop}
-use Rattle.session_port.specs.declared.types.Opened.TheVariants.{Good, Bad}
 use Rattle.session_port.specs.Port.{count_at, count_bytes, pack_session, opened_by, opened, session_answer, session_cycle}
 use Rattle.numbers.proofs.Bytes.{Bytes, same_bytes}
 use Rattle.session_port.proofs.Laws.{opened_size, answer_good, cycle_good}
@@ -55,7 +54,7 @@ session_length r n = refl
 
 -- ---- a session comes back
 
-pub opened_again : (s : Session) → s.cycles < 18446744073709551616 → opened (pack_session s) ≡ Good s
+pub opened_again : (s : Session) → s.cycles < 18446744073709551616 → opened (pack_session s) ≡ Some s
 unfolding opened pack_session
 opened_again s h =
     rw (session_length s.at s.cycles, take_at (pack s.at) (count_bytes s.cycles) 32 (pack_length s.at), found_again s.at, count_back s.at s.cycles h)
@@ -162,13 +161,13 @@ taken_bytes (suc n) [] h k = omega arith
 taken_bytes (suc n) (x ∷ b) h zero = h 0
 taken_bytes (suc n) (x ∷ b) h (suc k) = taken_bytes n b (λ j. h (suc j)) k
 
-opened_parts : (u : Unpacked) (n : ℕ) (s : Session) → opened_by u n ≡ Good s → (u ≡ record_is.Good s.at) × (n ≡ s.cycles)
-opened_parts (record_is.Good r) n s h =
+opened_parts : (u : Option Record) (n : ℕ) (s : Session) → opened_by u n ≡ Some s → (u ≡ Some s.at) × (n ≡ s.cycles)
+opened_parts (Some r) n s h =
     let e : session_at r n ≡ s = cc in
-    (ap (λ (z : Session). record_is.Good z.at) e, ap (λ (z : Session). z.cycles) e)
-opened_parts record_is.Bad n s h = let z : ◌≡◌ {A = ℕ} 0 1 = cc in absurd (omega arith)
+    (ap (λ (z : Session). Some z.at) e, ap (λ (z : Session). z.cycles) e)
+opened_parts None n s h = let z : ◌≡◌ {A = ℕ} 0 1 = cc in absurd (omega arith)
 
-pub same_session : (b : List ℕ) (s : Session) → Bytes b → opened b ≡ Good s → pack_session s ≡ b
+pub same_session : (b : List ℕ) (s : Session) → Bytes b → opened b ≡ Some s → pack_session s ≡ b
 unfolding pack_session opened
 same_session b s h e =
     let l = opened_size b s e in
@@ -177,13 +176,13 @@ same_session b s h e =
 
 -- ---- a refused cycle leaves every byte
 
-module _ (b : List ℕ) (s : Session) (h : Bytes b) (e : opened b ≡ Good s) where
-  pub answer_still : (byte : ℕ) → ((answered_to s byte).number ≡ 0 → ⊥)
-      → session_answer b byte ≡ record { number = (answered_to s byte).number; bytes = b }
+module _ (b : List ℕ) (s : Session) (h : Bytes b) (e : opened b ≡ Some s) where
+  pub answer_still : (byte : ℕ) → ((answered_to s byte).refusal ≡ None → ⊥)
+      → session_answer b byte ≡ record { number = number_in (answered_to s byte).refusal; bytes = b }
   answer_still byte k = answer_good b byte (opened b) refl s e ∙ rw (refused_byte s byte k, same_session b s h e)
 
-  pub cycle_still : (m : List ℕ) → ((cycled_over s m).number ≡ 0 → ⊥)
-      → session_cycle b m ≡ record { number = (cycled_over s m).number; bytes = b; mem = m }
+  pub cycle_still : (m : List ℕ) → ((cycled_over s m).refusal ≡ None → ⊥)
+      → session_cycle b m ≡ record { number = number_in (cycled_over s m).refusal; bytes = b; mem = m }
   cycle_still m k =
       let f = refused_cycle s m k in
       cycle_good b m (opened b) refl s e ∙ rw (f.0, f.1, same_session b s h e)

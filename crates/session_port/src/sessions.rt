@@ -4,11 +4,11 @@ ghost use Rattle.session.specs.Sessions.{session_at};
 ghost use Rattle.session_port.specs.Port.{count_at, count_bytes, pack_session, opened, session_request, session_answer, session_cycles, tallied, tally_of};
 
 use crate::repeated::{repeated, unfit_by};
-use crate::types::{Opened, Tally};
-use cpu::types::Record;
+use crate::types::Tally;
+use cpu::record::number_in;
+use cpu::types::{Record, Refusal};
 use numbers::numbers::asked_number;
 use packed::bytes::{pack, put, unpack};
-use packed::types::Unpacked;
 use session::session::{answered, asking};
 use session::types::Session;
 
@@ -60,17 +60,17 @@ fn session_at(at: Record, cycles: u64) -> Session
 }
 
 // The session of some bytes, if they are one.
-fn session_of(bytes: &[u8]) -> Opened
+fn session_of(bytes: &[u8]) -> Option<Session>
     ensures { result ≡ opened bytes.now }
 {
     if bytes.len() != 40 {
-        return Opened::Bad;
+        return None;
     }
     let end = 32;
     let u = unpack(&bytes[..end]);
     match u {
-        Unpacked::Good(r) => Opened::Good(session_at(r, count_at(bytes))),
-        Unpacked::Bad => Opened::Bad,
+        Some(r) => Some(session_at(r, count_at(bytes))),
+        None => None,
     }
 }
 
@@ -92,8 +92,8 @@ pub fn glavorint_session_request(session: &[u8]) -> u64
 {
     let o = session_of(session);
     match o {
-        Opened::Good(s) => asked_number(asking(s)),
-        Opened::Bad => 4 * 281_474_976_710_656,
+        Some(s) => asked_number(asking(s)),
+        None => 4 * 281_474_976_710_656,
     }
 }
 
@@ -102,22 +102,19 @@ pub fn glavorint_session_answer(session: &mut [u8], byte: u8) -> u8
     ensures { (result ≡ (session_answer session.old byte).number) × (session.new ≡ (session_answer session.old byte).bytes) }
 {
     let o = session_of(session);
-    let Opened::Good(s) = o else {
-        return 4;
+    let Some(s) = o else {
+        return u8::from(Refusal::Malformed);
     };
     let t = answered(s, byte);
     let after = t.session;
     put_session(session, after);
-    t.number
+    number_in(t.refusal)
 }
 
-fn tally(cycles: u32, number: u8) -> Tally
-    ensures { result ≡ tallied cycles number }
+fn tally(cycles: u32, refusal: Option<Refusal>) -> Tally
+    ensures { result ≡ tallied cycles refusal }
 {
-    Tally {
-        cycles: cycles,
-        number: number,
-    }
+    Tally { cycles, refusal }
 }
 
 // So many cycles of the session that some bytes are, up to the first that is refused. The exports of them are walk_port's: in a library of their own
@@ -128,11 +125,11 @@ pub fn cycles_of(session: &mut [u8], mem: &mut [u8], count: u32) -> Tally
         × (mem.new ≡ (session_cycles session.old mem.old count).mem) }
 {
     let o = session_of(session);
-    let Opened::Good(s) = o else {
-        return tally(0, unfit_by(mem.len()));
+    let Some(s) = o else {
+        return tally(0, Some(unfit_by(mem.len())));
     };
     let w = repeated(s, mem, count);
     let after = w.session;
     put_session(session, after);
-    tally(w.cycles, w.number)
+    tally(w.cycles, w.refusal)
 }

@@ -1,10 +1,10 @@
 -- A byte is listed exactly where its shape's number isn't 0.
 use mathlib.Core.Path.{◌≡◌, refl}
+use Rattle.opcodes.specs.declared.types.Operation.{Operation}
+use Rattle.std.proofs.Common.{Option, Some, None}
 use mathlib.Core.Bool.{true, not}
 use lib.Dec.{eqb}
 use Rattle.opcodes.specs.Opcodes.{is_listed}
-use Rattle.opcodes.specs.declared.types.Op.{Op}
-use Rattle.opcodes.specs.declared.types.Op.TheVariants.{Unlisted, Listed}
 use Rattle.opcodes.specs.declared.types.Shape.{Shape}
 use Rattle.opcodes.specs.declared.types.Shape.TheVariants.{Immediate, Absolute, Direct, StoreAbsolute, StoreDirect, Implied, Xba, Mask, Wdm, Push, Pull, PullP, PullB, PullD, Pea, Pei, Per, Jump, JumpLong, JumpIndirect, JumpIndirectLong, JumpIndexed, Call, CallIndexed, CallLong, Return, ReturnLong, Branch, BranchLong, Move}
 use Rattle.shapes.specs.Shapes.{shape_number, number_of_shape}
@@ -41,6 +41,6 @@ shape_not_0 Branch = refl
 shape_not_0 BranchLong = refl
 shape_not_0 Move = refl
 
-pub number_lists : (p : Op) → not (eqb (shape_number p) 0) ≡ is_listed p
-number_lists Unlisted = refl
-number_lists (Listed s o) = shape_not_0 s
+pub number_lists : (p : Option (Shape × Operation)) → not (eqb (shape_number p) 0) ≡ is_listed p
+number_lists None = refl
+number_lists (Some (s, o)) = shape_not_0 s

@@ -1,5 +1,7 @@
 -- The table of shapes agrees with the opcode list.
 use Prim.Native.Nat.{ℕ, ◌<◌}
+use Rattle.opcodes.specs.declared.types.Operation.{Operation}
+use Rattle.std.proofs.Common.{Option, Some, None}
 use native.Mathlib.Omega.{arith}
 use mathlib.Core.Path.{◌≡◌}
 use mathlib.Core.Bool.{Bool}
@@ -7,8 +9,6 @@ use mathlib.Core.List.{List, [], ◌∷◌}
 use lib.Dec.{eqb, eqb→eq}
 use lib.ListN.{get_or}
 use Rattle.opcodes.specs.Opcodes.{decode_of, opcodes, one_bytes}
-use Rattle.opcodes.specs.declared.types.Op.{Op}
-use Rattle.opcodes.specs.declared.types.Op.TheVariants.{Unlisted, Listed}
 use Rattle.opcodes.specs.declared.types.Shape.{Shape}
 use Rattle.opcodes.specs.declared.types.Shape.TheVariants.{Immediate, Absolute, Direct, StoreAbsolute, StoreDirect, Implied, Xba, Mask, Wdm, Push, Pull, PullP, PullB, PullD, Pea, Pei, Per, Jump, JumpLong, JumpIndirect, JumpIndirectLong, JumpIndexed, Call, CallIndexed, CallLong, Return, ReturnLong, Branch, BranchLong, Move}
 use Rattle.shapes.specs.Shapes.{shape_number, number_of_shape}
@@ -65,6 +65,6 @@ shape_small Branch = omega arith
 shape_small BranchLong = omega arith
 shape_small Move = omega arith
 
-pub number_small : (p : Op) → shape_number p < 31
-number_small Unlisted = omega arith
-number_small (Listed s o) = shape_small s
+pub number_small : (p : Option (Shape × Operation)) → shape_number p < 31
+number_small None = omega arith
+number_small (Some (s, o)) = shape_small s

@@ -1,7 +1,6 @@
 -- The number of a shape, in the order of the enum Shape; 0 stands for a byte that isn't listed.
-use Rattle.std.specs.Prelude.{ℕ}
-use Rattle.opcodes.specs.declared.types.Op.{Op}
-use Rattle.opcodes.specs.declared.types.Op.TheVariants.{Unlisted, Listed}
+use Rattle.std.specs.Prelude.{ℕ, Option, Some, None}
+use Rattle.opcodes.specs.declared.types.Operation.{Operation}
 use Rattle.opcodes.specs.declared.types.Shape.{Shape}
 use Rattle.opcodes.specs.declared.types.Shape.TheVariants.{Immediate, Absolute, Direct, StoreAbsolute, StoreDirect, Implied, Xba, Mask, Wdm, Push, Pull, PullP, PullB, PullD, Pea, Pei, Per, Jump, JumpLong, JumpIndirect, JumpIndirectLong, JumpIndexed, Call, CallIndexed, CallLong, Return, ReturnLong, Branch, BranchLong, Move}
 
@@ -37,6 +36,6 @@ number_of_shape Branch = 28
 number_of_shape BranchLong = 29
 number_of_shape Move = 30
 
-abbrev pub shape_number : Op → ℕ
-shape_number Unlisted = 0
-shape_number (Listed s o) = number_of_shape s
+abbrev pub shape_number : Option (Shape × Operation) → ℕ
+shape_number None = 0
+shape_number (Some (s, o)) = number_of_shape s

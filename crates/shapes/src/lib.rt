@@ -5,7 +5,8 @@ ghost use Rattle.std.specs.Prelude.{◌≡◌, ◌<◌};
 ghost use Rattle.opcodes.specs.Opcodes.{decode_of};
 ghost use Rattle.shapes.specs.Shapes.{shape_number};
 
-// For each byte the number of its shape, in the order of the enum Shape; 0 where it isn't listed.
+// For each byte the number of its shape, in the order of the enum Shape; 0 where it isn't listed. Numbers and no `Option<Shape>`,
+// since document 01 asks for a const [u8; 256].
 const SHAPES: [u8; 256] = [
     0, 0, 0, 0, 0, 3, // 05 ORA
     0, 0, 10, // 08 PHP

@@ -1,5 +1,7 @@
 -- The sheet's rows are as long as document 01's table of counts says, and leave the program counter past the instruction.
 use Prim.Native.Nat.{ℕ, ◌≤◌, ◌<◌}
+use Rattle.cpu.specs.declared.types.Refusal.{Refusal}
+use Rattle.std.proofs.Common.{Option, Some, Result, Ok, Err}
 use native.Mathlib.Omega.{arith}
 use mathlib.Core.Path.{◌≡◌, refl, ap, sym, ◌∙◌}
 use mathlib.Core.Bool.{Bool, true, false, ◌&&◌}
@@ -10,11 +12,7 @@ use Rattle.cpu.specs.Record.{well_formed, ended, holds}
 use Rattle.cpu.specs.declared.types.Record.{Record}
 use Rattle.cpu.specs.declared.types.Source.{Source}
 use Rattle.cpu.specs.declared.types.Source.TheVariants as of
-use Rattle.cpu.specs.declared.types.Answer.{Answer}
-use Rattle.cpu.specs.declared.types.Answer.TheVariants.{Next, Refused}
 use Rattle.opcodes.specs.Opcodes.{decode_of, cond_in, wide_of}
-use Rattle.opcodes.specs.declared.types.Op.{Op}
-use Rattle.opcodes.specs.declared.types.Op.TheVariants.{Listed}
 use Rattle.opcodes.specs.declared.types.Operation.{Operation}
 use Rattle.opcodes.specs.declared.types.Operation.TheVariants.{Give}
 use Rattle.opcodes.specs.declared.types.Shape.{Shape}
@@ -81,13 +79,13 @@ counts r b Branch o w d e = branch_counts r b (holds (cond_in o) r.flags) e (cro
 counts r b Move o w d e = refl
 
 -- So a run from an instruction's start makes as many requests.
-pub run_counts : (r : Record) (b : ℕ → ℕ) (s : Shape) (o : Operation) → well_formed r ≡ true → r.held ≡ false → r.pc < 65536 → decode_of (b 0) ≡ Listed s o
+pub run_counts : (r : Record) (b : ℕ → ℕ) (s : Shape) (o : Operation) → well_formed r ≡ true → r.held ≡ false → r.pc < 65536 → decode_of (b 0) ≡ Some (s, o)
     → length (run 8 b r).requests
     ≡ count_of s (wide_of o r.flags.memsel r.flags.indexsel) (unaligned r.d) r.flags.emulation (jumps s o r.flags) (crosses r.pc (b 1))
 unfolding instruction
 run_counts r b s o w h small k =
     ap (λ (t : Ran). length t.requests) (demand_2 r b w h small)
-    ∙ ap (λ (p : Op). length (row r b p).requests) k
+    ∙ ap (λ (p : Option (Shape × Operation)). length (row r b p).requests) k
     ∙ counts r b s o (wide_of o r.flags.memsel r.flags.indexsel) (unaligned r.d) r.flags.emulation
 
 -- PHP, PHB and PHK take 3 cycles and PHD takes 4, at any widths.
@@ -140,12 +138,12 @@ count_bounds Branch w d e taken page = branch_bounds w d e taken page
 count_bounds Move w d e taken page = omega arith
 
 -- ---- lengths
-abbrev pc_of : Answer → ℕ
-pc_of (Next t) = t.pc
-pc_of (Refused n) = 0
+abbrev pc_of : Result Record Refusal → ℕ
+pc_of (Ok t) = t.pc
+pc_of (Err n) = 0
 
 -- Where it doesn't jump, the program counter is left past the instruction's own bytes.
-pub past_its_bytes : (r : Record) (b : ℕ → ℕ) (s : Shape) (o : Operation) (w d e : Bool) (t : Record) → jumps s o r.flags ≡ false → (sheet r b s o w d e).out ≡ Next t
+pub past_its_bytes : (r : Record) (b : ℕ → ℕ) (s : Shape) (o : Operation) (w d e : Bool) (t : Record) → jumps s o r.flags ≡ false → (sheet r b s o w d e).out ≡ Ok t
     → t.pc ≡ up r.pc (length_of s w)
 unfolding ended
 past_its_bytes r b Immediate o true d e t h i = sym (ap pc_of i)

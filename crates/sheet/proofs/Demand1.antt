@@ -2,6 +2,8 @@
 -- checks first.
 -- What a refusal is given for stands in Refusals; here: the two entries refuse alike, and after a write the byte is ignored.
 use Prim.Native.Nat.{ℕ, ◌≤◌}
+use Rattle.opcodes.specs.declared.types.Shape.{Shape}
+use Rattle.std.proofs.Common.{Option, Result, Ok, Err}
 use mathlib.Core.Path.{◌≡◌, refl, sym, ap, subst, ◌∙◌}
 use mathlib.Core.List.{[]}
 use mathlib.Core.Logic.{◌⊎◌, inl, inr}
@@ -11,12 +13,7 @@ use Rattle.cpu.specs.Record.{number_of}
 use Rattle.cpu.specs.declared.types.Record.{Record}
 use Rattle.cpu.specs.declared.types.Refusal.{Refusal}
 use Rattle.cpu.specs.declared.types.Request.{Request}
-use Rattle.cpu.specs.declared.types.Asked.{Asked}
-use Rattle.cpu.specs.declared.types.Asked.TheVariants.{Ask, No}
-use Rattle.cpu.specs.declared.types.Answer.{Answer}
-use Rattle.cpu.specs.declared.types.Answer.TheVariants.{Next, Refused}
 use Rattle.opcodes.specs.Opcodes.{decode_of}
-use Rattle.opcodes.specs.declared.types.Op.{Op}
 use Rattle.opcodes.specs.declared.types.Operation.{Operation}
 use Rattle.cpu.specs.declared.types.Part.TheVariants.{Only, Low, High}
 use Rattle.cycles.specs.declared.types.Ask.{Ask as Asks}
@@ -39,45 +36,45 @@ use Rattle.sheet.proofs.Rows.{writing, deaf_move, deaf_change, deaf_to, fine, si
 use Rattle.sheet.proofs.Refusals.{request_numbers, answer_numbers}
 
 -- ---- accepted, or refused by 4, 5 or 6
-pub data Outcome (a : Answer) : Type 0 where
-  accepted : (s : Record) → a ≡ Next s → Outcome a
-  refused : (n : Refusal) → a ≡ Refused n → 4 ≤ number_of n → number_of n ≤ 6 → Outcome a
+pub data Outcome (a : Result Record Refusal) : Type 0 where
+  accepted : (s : Record) → a ≡ Ok s → Outcome a
+  refused : (n : Refusal) → a ≡ Err n → 4 ≤ number_of n → number_of n ≤ 6 → Outcome a
 
-outcome : (r : Record) (b : ℕ) (a : Answer) → answer_of r b ≡ a → Outcome a
-outcome r b (Next s) e = accepted s refl
-outcome r b (Refused n) e = refused n refl (answer_numbers r b n e).0 (answer_numbers r b n e).1
+outcome : (r : Record) (b : ℕ) (a : Result Record Refusal) → answer_of r b ≡ a → Outcome a
+outcome r b (Ok s) e = accepted s refl
+outcome r b (Err n) e = refused n refl (answer_numbers r b n e).0 (answer_numbers r b n e).1
 
 -- Demand 1, for a cycle.
 pub demand_1 : (r : Record) (b : ℕ) → Outcome (answer_of r b)
 demand_1 r b = outcome r b (answer_of r b) refl
 
 -- and for its request: asked, or refused by 4, 5 or 6
-pub data Question (a : Asked) : Type 0 where
-  asked : (q : Request) → a ≡ Ask q → Question a
-  declined : (n : Refusal) → a ≡ No n → 4 ≤ number_of n → number_of n ≤ 6 → Question a
+pub data Question (a : Result Request Refusal) : Type 0 where
+  asked : (q : Request) → a ≡ Ok q → Question a
+  declined : (n : Refusal) → a ≡ Err n → 4 ≤ number_of n → number_of n ≤ 6 → Question a
 
-question : (r : Record) (a : Asked) → request_of r ≡ a → Question a
-question r (Ask q) e = asked q refl
-question r (No n) e = declined n refl (request_numbers r n e).0 (request_numbers r n e).1
+question : (r : Record) (a : Result Request Refusal) → request_of r ≡ a → Question a
+question r (Ok q) e = asked q refl
+question r (Err n) e = declined n refl (request_numbers r n e).0 (request_numbers r n e).1
 
 pub demand_1_request : (r : Record) → Question (request_of r)
 demand_1_request r = question r (request_of r) refl
 
 -- In document 01's numbers: 0 for accepted, or 4 to 6.
-numbers : (a : Answer) → Outcome a → (answer_number a ≡ 0) ⊎ ((4 ≤ answer_number a) × (answer_number a ≤ 6))
+numbers : (a : Result Record Refusal) → Outcome a → (answer_number a ≡ 0) ⊎ ((4 ≤ answer_number a) × (answer_number a ≤ 6))
 numbers a (accepted s e) = inl (ap answer_number e)
 numbers a (refused n e p q) =
-    inr (subst (λ (x : Answer). (4 ≤ answer_number x) × (answer_number x ≤ 6)) (sym e) (p, q))
+    inr (subst (λ (x : Result Record Refusal). (4 ≤ answer_number x) × (answer_number x ≤ 6)) (sym e) (p, q))
 
 pub demand_1_numbers : (r : Record) (b : ℕ) → let n : ℕ = answer_number (answer_of r b) in (n ≡ 0) ⊎ ((4 ≤ n) × (n ≤ 6))
 demand_1_numbers r b = numbers (answer_of r b) (demand_1 r b)
 
 -- A request that is made has its four values and the number 0; one that is refused has no values, and 4 to 6.
-abbrev Told : Asked → Type 0
+abbrev Told : Result Request Refusal → Type 0
 Told a =
     ((asked_number a ≡ 0) × (length (asked_values a) ≡ 4)) ⊎ ((4 ≤ asked_number a) × (asked_number a ≤ 6) × (asked_values a ≡ []))
 
-told : (a : Asked) → Question a → Told a
+told : (a : Result Request Refusal) → Question a → Told a
 told a (asked q e) = subst Told (sym e) (inl (refl, refl))
 told a (declined n e p q) = subst Told (sym e) (inr (p, q, refl))
 
@@ -85,18 +82,18 @@ pub demand_1_request_numbers : (r : Record) → Told (request_of r)
 demand_1_request_numbers r = told (request_of r) (demand_1_request r)
 
 -- ---- what the request refuses, the answer refuses, whatever the byte
-refused_by : (m : Micro) (r : Record) (b : ℕ) (n : Refusal) → asked_by m r ≡ No n → answered_by m r b ≡ Refused n
-refused_by (Refuse k) r b n e = let same : k ≡ n = cc in ap Refused same
+refused_by : (m : Micro) (r : Record) (b : ℕ) (n : Refusal) → asked_by m r ≡ Err n → answered_by m r b ≡ Err n
+refused_by (Refuse k) r b n e = let same : k ≡ n = cc in ap Err same
 refused_by Fetch r b n e = absurd (ask_no e)
   where
-    ask_no : {q : Request} → Ask q ≡ No n → ⊥
+    ask_no : {q : Request} → Ok q ≡ Err n → ⊥
     ask_no h = let z : ◌≡◌ {A = Bool} false true = cc in false_true z
 refused_by (Held q m c t o) r b n e = absurd (ask_no e)
   where
-    ask_no : {q : Request} → Ask q ≡ No n → ⊥
+    ask_no : {q : Request} → Ok q ≡ Err n → ⊥
     ask_no h = let z : ◌≡◌ {A = Bool} false true = cc in false_true z
 
-pub refused_alike : (r : Record) (b : ℕ) (n : Refusal) → request_of r ≡ No n → answer_of r b ≡ Refused n
+pub refused_alike : (r : Record) (b : ℕ) (n : Refusal) → request_of r ≡ Err n → answer_of r b ≡ Err n
 unfolding request_of answer_of
 refused_alike r b n e = refused_by (micro_of r) r b n e
 
@@ -208,16 +205,16 @@ module _ (r : Record) (b c : ℕ) where
   held_ignores : (q : Asks) (m : Move) (k : Change) (t : To) (o : Operation) → silent q m k t ≡ true → writing q ≡ true → act_of m k t o r b ≡ act_of m k t o r c
   held_ignores q m k t o h w = act_deaf m k t o (rw w at h)
 
-  written : {p q : Request} → Ask p ≡ Ask q → q.write ≡ true → p.write ≡ true
+  written : {p q : Request} → ◌≡◌ {A = Result Request Refusal} (Ok p) (Ok q) → q.write ≡ true → p.write ≡ true
   written {p} {q} e w = let same : p ≡ q = cc in ap (λ (x : Request). x.write) same ∙ w
 
-  micro_ignores : (k : Op) (m : Micro) (q : Request) → in_order k m ≡ true → asked_by m r ≡ Ask q → q.write ≡ true → answered_by m r b ≡ answered_by m r c
+  micro_ignores : (k : Option (Shape × Operation)) (m : Micro) (q : Request) → in_order k m ≡ true → asked_by m r ≡ Ok q → q.write ≡ true → answered_by m r b ≡ answered_by m r c
   micro_ignores l (Refuse n) q i e w = refl
   micro_ignores l Fetch q i e w = absurd (false_true (written e w))
   micro_ignores l (Held p m k t o) q i e w =
       let f : (fine t k && silent p m k t) ≡ true = and_left _ _ i in
-      ap Next (held_ignores p m k t o (and_right (fine t k) (silent p m k t) f) (sym (writes_so p o r) ∙ written e w))
+      ap Ok (held_ignores p m k t o (and_right (fine t k) (silent p m k t) f) (sym (writes_so p o r) ∙ written e w))
 
-pub write_ignores : (r : Record) (b c : ℕ) (q : Request) → request_of r ≡ Ask q → q.write ≡ true → answer_of r b ≡ answer_of r c
+pub write_ignores : (r : Record) (b c : ℕ) (q : Request) → request_of r ≡ Ok q → q.write ≡ true → answer_of r b ≡ answer_of r c
 unfolding request_of answer_of
 write_ignores r b c q e w = micro_ignores r b c (decode_of r.ir) (micro_of r) q (micro_in_order r) e w

@@ -1,13 +1,13 @@
 -- Demand 2: cycle after cycle from an instruction's start is the instruction as the sheet's table has it.
 use Prim.Native.Nat.{ℕ, zero, suc, ◌<◌}
+use Rattle.opcodes.specs.declared.types.Shape.{Shape}
+use Rattle.std.proofs.Common.{Option, Some, None}
 use mathlib.Core.Path.{◌≡◌, refl, ap, ◌∙◌}
 use mathlib.Core.Bool.{true, false}
 use Rattle.cpu.specs.Record.{narrowed, well_formed, mid_of, regs_of, under_way}
 use Rattle.cpu.specs.declared.types.Record.{Record}
 use Rattle.opcodes.specs.Opcodes.{decode_of, wide_of}
 use Rattle.opcodes.specs.declared.types.Operation.{Operation}
-use Rattle.opcodes.specs.declared.types.Op.{Op}
-use Rattle.opcodes.specs.declared.types.Op.TheVariants.{Unlisted, Listed}
 use Rattle.opcodes.specs.declared.types.Shape.TheVariants.{Move}
 use Rattle.cycles.specs.Cycles.{cycles_of, unaligned, move}
 use Rattle.cycles.specs.declared.types.Ask.TheVariants.{Opcode}
@@ -27,9 +27,9 @@ unfolding micro_of
 micro_start r w h = rw (w, h)
 
 module _ (r : Record) (b : ℕ → ℕ) (small : r.pc < 65536) (narrow : narrowed r.flags r.x r.y ≡ true) where
-  row_law : (o : Op) → decode_of (b 0) ≡ o → after (asked_by Fetch r) (begun o r (b 0)) (run 7 (later b)) ≡ row r b o
-  row_law Unlisted h = refl
-  row_law (Listed s o) h =
+  row_law : (o : Option (Shape × Operation)) → decode_of (b 0) ≡ o → after (asked_by Fetch r) (begun o r (b 0)) (run 7 (later b)) ≡ row r b o
+  row_law None h = refl
+  row_law (Some (s, o)) h =
       ap (also (O (K r b 0)))
       (run_walks 7 (later b) (b 0) 0 r.pbr (regs_of r) (past (mid_of r)) s o
       (cycles_of s (wide_of o r.flags.memsel r.flags.indexsel) (unaligned r.d) r.flags.emulation)
@@ -50,7 +50,7 @@ instead ir b zero = ir
 instead ir b (suc k) = b (suc k)
 
 module _ (r : Record) (b : ℕ → ℕ) (o : Operation) (w : well_formed r ≡ true) (h : r.held ≡ true) (c : r.tcu ≡ 0)
-    (k : decode_of r.ir ≡ Listed Move o) (small : r.pc < 65536) where
+    (k : decode_of r.ir ≡ Some (Move, o)) (small : r.pc < 65536) where
   micro_again : micro_of r ≡ Held Opcode Step Keep On o
   unfolding micro_of
   micro_again = rw (w, h, k, c)
@@ -60,7 +60,7 @@ module _ (r : Record) (b : ℕ → ℕ) (o : Operation) (w : well_formed r ≡ t
   again f = rw c
 
   -- Between a move's bytes likewise.
-  pub between_bytes : run 8 b r ≡ row r (instead r.ir b) (Listed Move o)
+  pub between_bytes : run 8 b r ≡ row r (instead r.ir b) (Some (Move, o))
   unfolding run well_formed
   between_bytes =
       cycle_is r (b 0) (run 7 (later b)) (Held Opcode Step Keep On o) micro_again

@@ -1,6 +1,9 @@
 -- Well-formedness is kept: an accepted cycle gives a well-formed record. Only a well-formed one is accepted at all, so nothing is asked of it.
 -- A record is made in two ways only, under way and ended.
 use Prim.Native.Nat.{ℕ, ◌+◌, ◌/◌, ◌%◌}
+use Rattle.opcodes.specs.declared.types.Shape.{Shape}
+use Rattle.cpu.specs.declared.types.Refusal.{Refusal}
+use Rattle.std.proofs.Common.{Option, Some, None, Result, Ok, Err}
 use native.Mathlib.Omega.{arith}
 use mathlib.Core.Path.{◌≡◌, refl, subst}
 use mathlib.Core.Bool.{Bool, true, false, not, ◌&&◌, ◌||◌}
@@ -12,11 +15,7 @@ use Rattle.cpu.specs.declared.types.Record.{Record}
 use Rattle.cpu.specs.declared.types.Regs.{Regs}
 use Rattle.cpu.specs.declared.types.Mid.{Mid}
 use Rattle.cpu.specs.declared.types.Refusal.TheVariants.{Malformed}
-use Rattle.cpu.specs.declared.types.Answer.{Answer}
-use Rattle.cpu.specs.declared.types.Answer.TheVariants.{Next, Refused}
 use Rattle.opcodes.specs.Opcodes.{decode_of, cond_in, flag_in}
-use Rattle.opcodes.specs.declared.types.Op.{Op}
-use Rattle.opcodes.specs.declared.types.Op.TheVariants as op
 use Rattle.opcodes.specs.declared.types.Operation.{Operation}
 use Rattle.opcodes.specs.declared.types.Operation.TheVariants.{Plain}
 use Rattle.opcodes.specs.declared.types.Shape.TheVariants as shape
@@ -110,15 +109,15 @@ well_arrived (On pbr) c o r b t e h = well_under_way r.ir (r.tcu % 8) pbr (regs_
 well_arrived (End pbr) c o r b t e h = well_ended r.ir false pbr t.pc t.s t.dbr (regs_after c o r b)
 well_arrived (Again pbr) c o r b t e h = well_ended r.ir true pbr t.pc t.s t.dbr (regs_after c o r b)
 
-abbrev Well : Answer → Type 0
-Well (Next s) = well_formed s ≡ true
-Well (Refused n) = Unit
+abbrev Well : Result Record Refusal → Type 0
+Well (Ok s) = well_formed s ≡ true
+Well (Err n) = Unit
 
-well_begun : (o : Op) (r : Record) (b : ℕ) → narrowed r.flags r.x r.y ≡ true → Well (begun o r b)
-well_begun op.Unlisted r b h = tt
-well_begun (op.Listed s o) r b h = well_under_way b 0 r.pbr (regs_of r) (past (mid_of r)) h
+well_begun : (o : Option (Shape × Operation)) (r : Record) (b : ℕ) → narrowed r.flags r.x r.y ≡ true → Well (begun o r b)
+well_begun None r b h = tt
+well_begun (Some (s, o)) r b h = well_under_way b 0 r.pbr (regs_of r) (past (mid_of r)) h
 
-well_answered : (k : Op) (m : Micro) (r : Record) (b : ℕ) → in_order k m ≡ true → narrowed r.flags r.x r.y ≡ true → Well (answered_by m r b)
+well_answered : (k : Option (Shape × Operation)) (m : Micro) (r : Record) (b : ℕ) → in_order k m ≡ true → narrowed r.flags r.x r.y ≡ true → Well (answered_by m r b)
 well_answered k (Refuse n) r b e h = tt
 well_answered k Fetch r b e h = well_begun (decode_of b) r b h
 well_answered k (Held q m c t o) r b e h =
@@ -126,15 +125,15 @@ well_answered k (Held q m c t o) r b e h =
     well_arrived (way_of t o r b) c o r b (mid_after m o r b) (fine_leads t c o r b (and_left (fine t c) (silent q m c t) f)) h
 
 -- a record that isn't well formed is refused
-well_before : (r s : Record) (b : ℕ) → answer_of r b ≡ Next s → well_formed r ≡ true
+well_before : (r s : Record) (b : ℕ) → answer_of r b ≡ Ok s → well_formed r ≡ true
 unfolding answer_of micro_of
 well_before r s b e = go (well_formed r) refl
   where
     go : (w : Bool) → well_formed r ≡ w → w ≡ true
     go true i = refl
-    go false i = let z : Refused Malformed ≡ Next s = rw i at e in cc
+    go false i = let z : Err Malformed ≡ Ok s = rw i at e in cc
 
 -- A record reached by an answered cycle is well formed, from whatever record.
-pub kept : (r s : Record) (b : ℕ) → answer_of r b ≡ Next s → well_formed s ≡ true
+pub kept : (r s : Record) (b : ℕ) → answer_of r b ≡ Ok s → well_formed s ≡ true
 unfolding answer_of well_formed
 kept r s b e = subst Well e (well_answered (decode_of r.ir) (micro_of r) r b (micro_in_order r) (and_left _ _ (well_before r s b e)))

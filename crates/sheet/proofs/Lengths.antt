@@ -1,5 +1,6 @@
 -- An instruction is as long as the bytes that its cycles fetch: the opcode, and each operand byte asked at PBR:PC.
 use Prim.Native.Nat.{ℕ, suc, ◌+◌}
+use Rattle.std.proofs.Common.{Some, Option, None}
 use mathlib.Core.Path.{◌≡◌, refl}
 use mathlib.Core.Bool.{Bool, true, false}
 use mathlib.Core.List.{List, [], ◌∷◌}
@@ -10,7 +11,6 @@ use Rattle.cycles.specs.Cycles.{cycles_of}
 use Rattle.cycles.specs.declared.types.Ask.{Ask}
 use Rattle.cycles.specs.declared.types.Ask.TheVariants as ask
 use Rattle.cycles.specs.declared.types.Cycle.{Cycle}
-use Rattle.cycles.specs.declared.types.Cycle.TheVariants.{Absent, Present}
 use Rattle.sheet.specs.Counts.{length_of}
 
 -- a byte of the instruction itself; a table's entry lies elsewhere
@@ -47,10 +47,10 @@ of_operand ask.MoveRead = false
 of_operand ask.MoveWrite = false
 of_operand ask.MoveIdle = false
 
-abbrev operands : List Cycle → ℕ
+abbrev operands : List (Option Cycle) → ℕ
 operands [] = 0
-operands (Absent ∷ cs) = operands cs
-operands (Present q m c t ∷ cs) = bit (of_operand q) + operands cs
+operands (None ∷ cs) = operands cs
+operands (Some c ∷ cs) = bit (of_operand c.ask) + operands cs
 
 pub fetched : (s : Shape) (w d e : Bool) → length_of s w ≡ suc (operands (cycles_of s w d e))
 fetched shape.Immediate true d e = refl

@@ -1,5 +1,7 @@
 -- MVN and MVP are the opcodes that well-formedness means by a move: 54 and 44, and no other byte.
 use Prim.Native.Nat.{ℕ}
+use Rattle.opcodes.specs.declared.types.Operation.{Operation}
+use Rattle.std.proofs.Common.{Option, Some, None}
 use mathlib.Core.Path.{◌≡◌, refl, sym, ap, ◌∙◌}
 use mathlib.Core.Bool.{Bool, true, false}
 use mathlib.Core.List.{List, [], ◌∷◌}
@@ -8,8 +10,6 @@ use borrow.Author.Tests.{eqb-true}
 use Rattle.words.specs.Words.{pick}
 use Rattle.cpu.specs.Record.{is_move}
 use Rattle.opcodes.specs.Opcodes.{Row, find, one_bytes, opcodes, decode_of}
-use Rattle.opcodes.specs.declared.types.Op.{Op}
-use Rattle.opcodes.specs.declared.types.Op.TheVariants as op
 use Rattle.opcodes.specs.declared.types.Shape.{Shape}
 use Rattle.opcodes.specs.declared.types.Shape.TheVariants as shape
 use Rattle.sheet.proofs.Walk.{false_true}
@@ -46,21 +46,21 @@ moving shape.Branch = false
 moving shape.BranchLong = false
 moving shape.Move = true
 
-abbrev pub is_moving : Op → Bool
-is_moving op.Unlisted = false
-is_moving (op.Listed s o) = moving s
+abbrev pub is_moving : Option (Shape × Operation) → Bool
+is_moving None = false
+is_moving (Some (s, o)) = moving s
 
 -- every row but those two is no move
-abbrev others : List (Row Op) → Bool
+abbrev others : List (Row (Option (Shape × Operation))) → Bool
 others [] = true
 others (r ∷ rs) = pick (is_move r.code) (others rs) (pick (is_moving r.is) false (others rs))
 
-none_else : (n : ℕ) (rs : List (Row Op)) → T (others rs) → is_move n ≡ false → is_moving (find op.Unlisted n rs) ≡ false
+none_else : (n : ℕ) (rs : List (Row (Option (Shape × Operation)))) → T (others rs) → is_move n ≡ false → is_moving (find None n rs) ≡ false
 none_else n [] t h = refl
 none_else n (r ∷ rs) t h = go (eqb n r.code) (is_move r.code) (is_moving r.is) refl refl refl (none_else n rs) t
   where
-    go : (e m v : Bool) → eqb n r.code ≡ e → is_move r.code ≡ m → is_moving r.is ≡ v → (T (others rs) → is_move n ≡ false → is_moving (find op.Unlisted n rs) ≡ false)
-        → T (pick m (others rs) (pick v false (others rs))) → is_moving (pick e r.is (find op.Unlisted n rs)) ≡ false
+    go : (e m v : Bool) → eqb n r.code ≡ e → is_move r.code ≡ m → is_moving r.is ≡ v → (T (others rs) → is_move n ≡ false → is_moving (find None n rs) ≡ false)
+        → T (pick m (others rs) (pick v false (others rs))) → is_moving (pick e r.is (find None n rs)) ≡ false
     go true true v i j k more t = absurd (false_true (sym h ∙ ap is_move (eqb-true n r.code i) ∙ j))
     go true false false i j k more t = k
     go true false true i j k more t = absurd t

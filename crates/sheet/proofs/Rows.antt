@@ -1,6 +1,7 @@
 -- What holds of every row of every shape's list, by one test that computes: a cycle that may go on keeps the index registers and
 -- width flags in order, a cycle that writes doesn't look at the byte, and one after which the opcode is read again is a move's.
 use Prim.Native.Nat.{ℕ, zero, suc}
+use Rattle.std.proofs.Common.{Option, Some, None}
 use mathlib.Core.Path.{◌≡◌, refl}
 use mathlib.Core.Bool.{Bool, true, false, ◌&&◌}
 use mathlib.Core.List.{List, [], ◌∷◌}
@@ -11,8 +12,6 @@ use Rattle.cpu.specs.Record.{well_formed}
 use Rattle.cpu.specs.declared.types.Record.{Record}
 use Rattle.cpu.specs.declared.types.Refusal.TheVariants.{Malformed}
 use Rattle.opcodes.specs.Opcodes.{decode_of, wide_of}
-use Rattle.opcodes.specs.declared.types.Op.{Op}
-use Rattle.opcodes.specs.declared.types.Op.TheVariants as op
 use Rattle.opcodes.specs.declared.types.Operation.{Operation}
 use Rattle.opcodes.specs.declared.types.Shape.{Shape}
 use Rattle.opcodes.specs.declared.types.Shape.TheVariants as shape
@@ -27,7 +26,6 @@ use Rattle.cycles.specs.declared.types.Change.TheVariants.{Keep, Operate, Fill, 
 use Rattle.cycles.specs.declared.types.To.{To}
 use Rattle.cycles.specs.declared.types.To.TheVariants as to
 use Rattle.cycles.specs.declared.types.Cycle.{Cycle}
-use Rattle.cycles.specs.declared.types.Cycle.TheVariants.{Absent, Present}
 use Rattle.cycles.specs.declared.types.Micro.{Micro}
 use Rattle.cycles.specs.declared.types.Micro.TheVariants.{Refuse, Fetch, Held}
 use Rattle.step.specs.Cycle.{micro_of}
@@ -170,15 +168,15 @@ again to.Crossed = false
 again to.Moved = true
 
 -- ---- so it is in every list
-abbrev orderly : Shape → Cycle → Bool
-orderly s Absent = true
-orderly s (Present q m c t) = (fine t c && silent q m c t) && implied (again t) (moving s)
+abbrev orderly : Shape → Option Cycle → Bool
+orderly s None = true
+orderly s (Some c) = (fine c.to c.change && silent c.ask c.step c.change c.to) && implied (again c.to) (moving s)
 
-abbrev all_orderly : Shape → List Cycle → Bool
+abbrev all_orderly : Shape → List (Option Cycle) → Bool
 all_orderly s [] = true
 all_orderly s (x ∷ cs) = orderly s x && all_orderly s cs
 
-orderly_at : (s : Shape) (cs : List Cycle) (n : ℕ) → all_orderly s cs ≡ true → orderly s (get_or cs n Absent) ≡ true
+orderly_at : (s : Shape) (cs : List (Option Cycle)) (n : ℕ) → all_orderly s cs ≡ true → orderly s (get_or cs n None) ≡ true
 orderly_at s [] n h = refl
 orderly_at s (x ∷ cs) zero h = and_left (orderly s x) (all_orderly s cs) h
 orderly_at s (x ∷ cs) (suc n) h = orderly_at s cs n (and_right (orderly s x) (all_orderly s cs) h)
@@ -232,22 +230,22 @@ phase_orderly : (s : Shape) (w d e : Bool) (tcu : ℕ) → orderly s (phase_of s
 phase_orderly s w d e tcu = orderly_at s (cycles_of s w d e) tcu (lists_orderly s w d e)
 
 -- ---- so is every cycle that a record may come to, which holds the opcode k
-abbrev pub in_order : Op → Micro → Bool
+abbrev pub in_order : Option (Shape × Operation) → Micro → Bool
 in_order k (Refuse n) = true
 in_order k Fetch = true
 in_order k (Held q m c t o) = (fine t c && silent q m c t) && implied (again t) (is_moving k)
 
-carrying_in_order : (s : Shape) (o : Operation) (x : Cycle) → orderly s x ≡ true → in_order (op.Listed s o) (carrying o x) ≡ true
-carrying_in_order s o Absent h = refl
-carrying_in_order s o (Present q m c t) h = h
+carrying_in_order : (s : Shape) (o : Operation) (x : Option Cycle) → orderly s x ≡ true → in_order (Some (s, o)) (carrying o x) ≡ true
+carrying_in_order s o None h = refl
+carrying_in_order s o (Some c) h = h
 
-held_in_order : (k : Op) (f : Flags) (d tcu : ℕ) → in_order k (held_micro k f d tcu) ≡ true
-held_in_order op.Unlisted f d tcu = refl
-held_in_order (op.Listed s o) f d tcu =
+held_in_order : (k : Option (Shape × Operation)) (f : Flags) (d tcu : ℕ) → in_order k (held_micro k f d tcu) ≡ true
+held_in_order None f d tcu = refl
+held_in_order (Some (s, o)) f d tcu =
     let w : Bool = wide_of o f.memsel f.indexsel in
     carrying_in_order s o (phase_of s w (unaligned d) f.emulation tcu) (phase_orderly s w (unaligned d) f.emulation tcu)
 
-picked_in_order : (k : Op) (w h : Bool) (m : Micro) → in_order k m ≡ true → in_order k (pick w (pick h m Fetch) (Refuse Malformed)) ≡ true
+picked_in_order : (k : Option (Shape × Operation)) (w h : Bool) (m : Micro) → in_order k m ≡ true → in_order k (pick w (pick h m Fetch) (Refuse Malformed)) ≡ true
 picked_in_order k true true m e = e
 picked_in_order k true false m e = refl
 picked_in_order k false h m e = refl

@@ -1,5 +1,6 @@
 -- A walk along a shape's list is the sheet's row of that shape, whatever the operation.
 use Prim.Native.Nat.{ℕ, ◌%◌, ◌<◌}
+use Rattle.std.proofs.Common.{Some}
 use native.Mathlib.Omega.{arith}
 use mathlib.Core.Path.{◌≡◌, refl}
 use mathlib.Core.Bool.{Bool, true, false, ◌&&◌}
@@ -17,7 +18,6 @@ use Rattle.cpu.specs.declared.types.Reg.TheVariants.{A, X, Y}
 use Rattle.cpu.specs.declared.types.Part.TheVariants.{Low}
 use Rattle.cpu.specs.declared.types.Stack.TheVariants.{Raw}
 use Rattle.opcodes.specs.Opcodes.{decode_of, reg_of, cond_in, flag_in}
-use Rattle.opcodes.specs.declared.types.Op.TheVariants.{Listed}
 use Rattle.opcodes.specs.declared.types.Operation.{Operation}
 use Rattle.opcodes.specs.declared.types.Shape.{Shape}
 use Rattle.opcodes.specs.declared.types.Shape.TheVariants.{Immediate, Absolute, Direct, StoreAbsolute, StoreDirect, Implied, Xba, Mask, Wdm, Push, Pull, PullP, PullB, PullD, Pea, Pei, Per, Jump, JumpLong, JumpIndirect, JumpIndirectLong, JumpIndexed, Call, CallIndexed, CallLong, Return, ReturnLong, Branch, BranchLong, Move}
@@ -69,7 +69,7 @@ module _ (r : Record) (b : ℕ → ℕ) (small : r.pc < 65536) (narrow : narrowe
   abbrev Law : Shape → (w d e : Bool) → Type 0
   Law s w d e = also (O (K r b 0)) (walk o (cycles_of s w d e) (b 0) 7 (later b) 1 r.pbr (regs_of r) (past (mid_of r))) ≡ sheet r b s o w d e
 
-  pub shape_law : (s : Shape) (w d e : Bool) → decode_of (b 0) ≡ Listed s o → Law s w d e
+  pub shape_law : (s : Shape) (w d e : Bool) → decode_of (b 0) ≡ Some (s, o) → Law s w d e
   unfolding walk directs
   shape_law Immediate true d e h = refl
   shape_law Immediate false d e h = refl

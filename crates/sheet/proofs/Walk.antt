@@ -1,6 +1,7 @@
 -- Cycle after cycle from a list that was looked up once: as long as no width, no mode and not D changes, every cycle of an
 -- instruction reads the same list. What a run does is then a walk along that list, which computes.
 use Prim.Native.Nat.{ℕ, zero, suc, ◌+◌, ◌*◌, ◌/◌, ◌%◌}
+use Rattle.std.proofs.Common.{Some, Ok, Err, Option, None}
 use native.Mathlib.Omega.{arith}
 use mathlib.Core.Path.{◌≡◌, refl, ap, ◌∙◌}
 use mathlib.Core.Bool.{Bool, true, false, ◌&&◌}
@@ -23,18 +24,14 @@ use Rattle.cpu.specs.declared.types.Reg.{Reg}
 use Rattle.cpu.specs.declared.types.Reg.TheVariants.{A, X, Y}
 use Rattle.cpu.specs.declared.types.Part.TheVariants.{Only, Low, High}
 use Rattle.cpu.specs.declared.types.Request.{Request}
-use Rattle.cpu.specs.declared.types.Asked.TheVariants.{Ask}
-use Rattle.cpu.specs.declared.types.Answer.TheVariants.{Next, Refused}
 use Rattle.cpu.specs.declared.types.Refusal.TheVariants.{NoCycle}
 use Rattle.opcodes.specs.Opcodes.{decode_of, alu_of, reg_of, wide_of}
-use Rattle.opcodes.specs.declared.types.Op.TheVariants.{Listed}
 use Rattle.opcodes.specs.declared.types.Operation.{Operation}
 use Rattle.opcodes.specs.declared.types.Shape.{Shape}
 use Rattle.cycles.specs.Cycles.{cycles_of, unaligned, carrying}
 use Rattle.cycles.specs.declared.types.Change.{Change}
 use Rattle.cycles.specs.declared.types.Change.TheVariants.{Keep, Operate, Fill, Apply, Mask, Status, Sign, DirectLow, DirectHigh, MoveByte}
 use Rattle.cycles.specs.declared.types.Cycle.{Cycle}
-use Rattle.cycles.specs.declared.types.Cycle.TheVariants.{Absent, Present}
 use Rattle.cycles.specs.declared.types.Micro.{Micro}
 use Rattle.bus.specs.Bus.{ask_of}
 use Rattle.mid.specs.Mid.{mid_after}
@@ -126,7 +123,7 @@ narrow_y true x y b h =
 narrow_y false x y b h = refl
 
 -- the registers are narrow where the index flag says so, and choose this list
-pub record Fits (s : Shape) (o : Operation) (cs : List Cycle) (g : Regs) : Type 0 where
+pub record Fits (s : Shape) (o : Operation) (cs : List (Option Cycle)) (g : Regs) : Type 0 where
   pub narrow : narrowed g.flags g.x g.y ≡ true
   pub list : cycles_of s (wide_of o g.flags.memsel g.flags.indexsel) (unaligned g.d) g.flags.emulation ≡ cs
 
@@ -148,7 +145,7 @@ low_narrow Y b f g k h =
     rw (k.m, k.x, k.e)
     (both_true (widths_set g.flags) (index_small g.flags g.x (low_set g.y b)) (widths_of g h) (narrow_y g.flags.indexsel g.x g.y b (index_of g h)))
 
-module _ (s : Shape) (o : Operation) (cs : List Cycle) where
+module _ (s : Shape) (o : Operation) (cs : List (Option Cycle)) where
   operate_fits : (k : Alu) (r : Reg) (b : ℕ) (g : Regs) → Fits s o cs g → Fits s o cs (operates k r Low b g)
   unfolding operates pulls
   operate_fits k A b g h =
@@ -187,35 +184,35 @@ module _ (s : Shape) (o : Operation) (cs : List Cycle) where
   steady_fits MoveByte k r b e h = absurd (false_true e)
 
 -- ---- what a record under way does next
-pub micro_under_way : (ir j pbr : ℕ) (g : Regs) (t : Mid) (s : Shape) (o : Operation) (cs : List Cycle) → Fits s o cs g → decode_of ir ≡ Listed s o
-    → micro_of (under_way ir (suc j) pbr g t) ≡ carrying o (get_or cs (suc j) Absent)
+pub micro_under_way : (ir j pbr : ℕ) (g : Regs) (t : Mid) (s : Shape) (o : Operation) (cs : List (Option Cycle)) → Fits s o cs g → decode_of ir ≡ Some (s, o)
+    → micro_of (under_way ir (suc j) pbr g t) ≡ carrying o (get_or cs (suc j) None)
 unfolding micro_of
 micro_under_way ir j pbr g t s o cs h k = rw (well_under_way ir j pbr g t h.narrow, k, h.list)
 
 -- ---- the walk
-module _ (o : Operation) (cs : List Cycle) (ir : ℕ) where
+module _ (o : Operation) (cs : List (Option Cycle)) (ir : ℕ) where
   -- one step of it: `f` goes on along the list, `h` looks it up again
   abbrev pub step_to : (tcu : ℕ) → Request → Change → Way → Regs → Mid → (ℕ → Regs → Mid → Ran) → (Record → Ran) → Ran
   step_to tcu q c (On pbr) g t f h = also q (pick (steady c) (f pbr g t) (h (arrived (On pbr) ir tcu g t)))
-  step_to tcu q c (End pbr) g t f h = only q (Next (arrived (End pbr) ir tcu g t))
-  step_to tcu q c (Again pbr) g t f h = only q (Next (arrived (Again pbr) ir tcu g t))
+  step_to tcu q c (End pbr) g t f h = only q (Ok (arrived (End pbr) ir tcu g t))
+  step_to tcu q c (Again pbr) g t f h = only q (Ok (arrived (Again pbr) ir tcu g t))
 
-  abbrev pub step_by : Cycle → (tcu : ℕ) → Record → ℕ → (ℕ → Regs → Mid → Ran) → (Record → Ran) → Ran
-  step_by Absent tcu u b f h = record { requests = []; out = Refused NoCycle }
-  step_by (Present q m c t) tcu u b f h = step_to tcu (ask_of q o u) c (way_of t o u b) (regs_after c o u b) (mid_after m o u b) f h
+  abbrev pub step_by : Option Cycle → (tcu : ℕ) → Record → ℕ → (ℕ → Regs → Mid → Ran) → (Record → Ran) → Ran
+  step_by None tcu u b f h = record { requests = []; out = Err NoCycle }
+  step_by (Some c) tcu u b f h = step_to tcu (ask_of c.ask o u) c.change (way_of c.to o u b) (regs_after c.change o u b) (mid_after c.step o u b) f h
 
   unfoldable pub walk : (n : ℕ) → (ℕ → ℕ) → (tcu pbr : ℕ) → Regs → Mid → Ran
-  walk zero b tcu pbr g t = record { requests = []; out = Next (under_way ir tcu pbr g t) }
-  walk (suc n) b tcu pbr g t = step_by (get_or cs tcu Absent) tcu (under_way ir tcu pbr g t) (b 0) (walk n (later b) (next_cycle tcu)) (run n (later b))
+  walk zero b tcu pbr g t = record { requests = []; out = Ok (under_way ir tcu pbr g t) }
+  walk (suc n) b tcu pbr g t = step_by (get_or cs tcu None) tcu (under_way ir tcu pbr g t) (b 0) (walk n (later b) (next_cycle tcu)) (run n (later b))
 
 -- a run and the walk make the same step, where they go on alike
-module _ (s : Shape) (o : Operation) (cs : List Cycle) (ir tcu pbr : ℕ) (g : Regs) (t : Mid) (fits : Fits s o cs g) (f : ℕ → Regs → Mid → Ran) (h : Record → Ran)
+module _ (s : Shape) (o : Operation) (cs : List (Option Cycle)) (ir tcu pbr : ℕ) (g : Regs) (t : Mid) (fits : Fits s o cs g) (f : ℕ → Regs → Mid → Ran) (h : Record → Ran)
     (alike : (pbr : ℕ) (g : Regs) (t : Mid) → Fits s o cs g → h (under_way ir (next_cycle tcu) pbr g t) ≡ f pbr g t) where
   abbrev u : Record
   u = under_way ir tcu pbr g t
 
   to_same : (q : Request) (c : Change) (b : ℕ) (w : Way) (t' : Mid)
-      → after (Ask q) (Next (arrived w ir tcu (regs_after c o u b) t')) h ≡ step_to o cs ir tcu q c w (regs_after c o u b) t' f h
+      → after (Ok q) (Ok (arrived w ir tcu (regs_after c o u b) t')) h ≡ step_to o cs ir tcu q c w (regs_after c o u b) t' f h
   unfolding ended
   to_same q c b (On p) t' = rw (not_zero (tcu % 8)) (ap (also q) (go (steady c) refl))
     where
@@ -226,21 +223,21 @@ module _ (s : Shape) (o : Operation) (cs : List Cycle) (ir tcu pbr : ℕ) (g : R
   to_same q c b (End p) t' = refl
   to_same q c b (Again p) t' = refl
 
-  by_same : (x : Cycle) (b : ℕ) → after (asked_by (carrying o x) u) (answered_by (carrying o x) u b) h ≡ step_by o cs ir x tcu u b f h
-  by_same Absent b = refl
-  by_same (Present q m c k) b = to_same (ask_of q o u) c b (way_of k o u b) (mid_after m o u b)
+  by_same : (x : Option Cycle) (b : ℕ) → after (asked_by (carrying o x) u) (answered_by (carrying o x) u b) h ≡ step_by o cs ir x tcu u b f h
+  by_same None b = refl
+  by_same (Some c) b = to_same (ask_of c.ask o u) c.change b (way_of c.to o u b) (mid_after c.step o u b)
 
 pub cycle_is : (u : Record) (b : ℕ) (f : Record → Ran) (m : Micro) → micro_of u ≡ m
     → after (request_of u) (answer_of u b) f ≡ after (asked_by m u) (answered_by m u b) f
 unfolding request_of answer_of
 cycle_is u b f m e = ap (λ (x : Micro). after (asked_by x u) (answered_by x u b) f) e
 
-pub run_walks : (n : ℕ) (b : ℕ → ℕ) (ir j pbr : ℕ) (g : Regs) (t : Mid) (s : Shape) (o : Operation) (cs : List Cycle) → Fits s o cs g → decode_of ir ≡ Listed s o
+pub run_walks : (n : ℕ) (b : ℕ → ℕ) (ir j pbr : ℕ) (g : Regs) (t : Mid) (s : Shape) (o : Operation) (cs : List (Option Cycle)) → Fits s o cs g → decode_of ir ≡ Some (s, o)
     → run n b (under_way ir (suc j) pbr g t) ≡ walk o cs ir n b (suc j) pbr g t
 unfolding run walk
 run_walks zero b ir j pbr g t s o cs h k = refl
 run_walks (suc n) b ir j pbr g t s o cs h k =
-    let x : Cycle = get_or cs (suc j) Absent in
+    let x : Option Cycle = get_or cs (suc j) None in
     cycle_is (under_way ir (suc j) pbr g t) (b 0) (run n (later b)) (carrying o x) (micro_under_way ir j pbr g t s o cs h k)
     ∙ by_same s o cs ir (suc j) pbr g t h (walk o cs ir n (later b) (next_cycle (suc j))) (run n (later b))
     (λ pbr' g' t' fits. run_walks n (later b) ir (suc j % 8) pbr' g' t' s o cs fits k) x (b 0)

@@ -1,5 +1,7 @@
 -- MVN and MVP from the first byte to the last: byte after byte the sheet's row, A + 1 times.
 use Prim.Native.Nat.{ℕ, zero, suc, ◌+◌, ◌*◌, ◌/◌, ◌<◌}
+use Rattle.cpu.specs.declared.types.Refusal.{Refusal}
+use Rattle.std.proofs.Common.{Some, Result, Ok}
 use native.Mathlib.Nat.{not-suc-le-zero}
 use native.Mathlib.Omega.{arith}
 use mathlib.Core.Path.{◌≡◌, refl, ap, sym, subst, ◌∙◌}
@@ -14,10 +16,7 @@ use Rattle.flags.specs.declared.Flags.{Flags}
 use Rattle.cpu.specs.Record.{boundary, narrowed, clean, well_formed, regs_of, ended}
 use Rattle.cpu.specs.declared.types.Record.{Record}
 use Rattle.cpu.specs.declared.types.Request.{Request}
-use Rattle.cpu.specs.declared.types.Answer.{Answer}
-use Rattle.cpu.specs.declared.types.Answer.TheVariants.{Next}
 use Rattle.opcodes.specs.Opcodes.{decode_of, flag_in}
-use Rattle.opcodes.specs.declared.types.Op.TheVariants.{Listed}
 use Rattle.opcodes.specs.declared.types.Operation.{Operation}
 use Rattle.opcodes.specs.declared.types.Shape.TheVariants.{Move}
 use Rattle.sheet.specs.Run.{Ran, run}
@@ -127,13 +126,13 @@ module _ (o : Operation) (ir : ℕ) where
   abbrev byte_row : Record → (ℕ → ℕ) → Ran
   byte_row r b = sheet r (instead ir b) Move o false false false
 
-  byte_more : (r : Record) (b : ℕ → ℕ) (m : ℕ) → Tidy r → r.a ≡ suc m → suc m < 65536 → (byte_row r b).out ≡ Next (between (flag_in o) ir r m (b 1))
+  byte_more : (r : Record) (b : ℕ → ℕ) (m : ℕ) → Tidy r → r.a ≡ suc m → suc m < 65536 → (byte_row r b).out ≡ Ok (between (flag_in o) ir r m (b 1))
   byte_more r b m t e small =
-      rw (ap (λ (n : ℕ). eqb (dec n) 0xFFFF) e ∙ more_left m small) (ap {B = Answer} Next (ended_between (flag_in o) ir r m (b 1) t e small))
+      rw (ap (λ (n : ℕ). eqb (dec n) 0xFFFF) e ∙ more_left m small) (ap {B = (Result Record Refusal)} Ok (ended_between (flag_in o) ir r m (b 1) t e small))
 
-  byte_last : (r : Record) (b : ℕ → ℕ) → Tidy r → r.a ≡ 0 → (byte_row r b).out ≡ Next (moved r (x_after r (flag_in o) 1) (y_after r (flag_in o) 1) (b 1))
+  byte_last : (r : Record) (b : ℕ → ℕ) → Tidy r → r.a ≡ 0 → (byte_row r b).out ≡ Ok (moved r (x_after r (flag_in o) 1) (y_after r (flag_in o) 1) (b 1))
   unfolding dec
-  byte_last r b t e = rw (ap (λ (n : ℕ). eqb (dec n) 0xFFFF) e) (ap {B = Answer} Next (ended_done (flag_in o) ir r (b 1) t e))
+  byte_last r b t e = rw (ap (λ (n : ℕ). eqb (dec n) 0xFFFF) e) (ap {B = (Result Record Refusal)} Ok (ended_done (flag_in o) ir r (b 1) t e))
 
 -- ---- the bytes after the first are those of the record after it
 module _ (ups : Bool) (ir : ℕ) (r : Record) (m bank : ℕ) (b : ℕ → ℕ → ℕ) where
@@ -164,10 +163,10 @@ module _ (ups : Bool) (ir : ℕ) (r : Record) (m bank : ℕ) (b : ℕ → ℕ �
       ∙ rw e
     where
       ran : List Request → (x y : ℕ) → Ran
-      ran q x y = record { requests = q; out = Next (moved r x y (b (suc m) 1)) }
+      ran q x y = record { requests = q; out = Ok (moved r x y (b (suc m) 1)) }
 
 -- ---- the whole move
-module _ (o : Operation) (ir : ℕ) (k : decode_of ir ≡ Listed Move o) where
+module _ (o : Operation) (ir : ℕ) (k : decode_of ir ≡ Some (Move, o)) where
   abbrev ups : Bool
   ups = flag_in o
 
@@ -186,12 +185,12 @@ module _ (o : Operation) (ir : ℕ) (k : decode_of ir ≡ Listed Move o) where
   move_law (suc m) zero r b e small fits near t h = absurd (not-suc-le-zero fits)
   move_law zero (suc n) r b e small fits near t h =
       ap (λ (u : Ran). go_on u.requests u.out (run_move n (others b))) h
-      ∙ ap (λ (u : Answer). go_on (seven r ups b 0) u (run_move n (others b))) (byte_last o ir r (b 0) t e)
+      ∙ ap (λ (u : Result Record Refusal). go_on (seven r ups b 0) u (run_move n (others b))) (byte_last o ir r (b 0) t e)
       ∙ rw e
   move_law (suc m) (suc n) r b e small fits near t h =
       let next : Record = between ups ir r m (b 0 1) in
       ap (λ (u : Ran). go_on u.requests u.out (run_move n (others b))) h
-      ∙ ap (λ (u : Answer). go_on (seven r ups b 0) u (run_move n (others b))) (byte_more o ir r (b 0) m t e small)
+      ∙ ap (λ (u : Result Record Refusal). go_on (seven r ups b 0) u (run_move n (others b))) (byte_more o ir r (b 0) m t e small)
       ∙ ap (λ (u : Ran). record { requests = seven r ups b 0 ++ u.requests; out = u.out })
       (move_law m n next (others b) refl (omega arith) (omega arith) near (record { m = t.m; x = t.x; home = t.home })
       (next_runs r m (b 0 1) (b 1) t e small near))
@@ -200,7 +199,7 @@ module _ (o : Operation) (ir : ℕ) (k : decode_of ir ≡ Listed Move o) where
 -- For every well-formed record at an instruction's start, and any bytes answered, of which the first is MVN or MVP: byte after
 -- byte, as many as it takes, is the whole move.
 pub whole_move_lem : (r : Record) (b : ℕ → ℕ → ℕ) (o : Operation) (n : ℕ) → well_formed r ≡ true → r.held ≡ false → r.pc < 65536 → r.a < 65536
-    → decode_of (b 0 0) ≡ Listed Move o → r.a < n → run_move n b r ≡ whole_move r (flag_in o) b
+    → decode_of (b 0 0) ≡ Some (Move, o) → r.a < n → run_move n b r ≡ whole_move r (flag_in o) b
 unfolding instruction
 whole_move_lem r b o n w h near small k fits =
     move_law o (b 0 0) k r.a n r b refl small fits near (tidy_start r w h)
@@ -213,7 +212,7 @@ sevens_length r ups b i (suc n) = omega (arith, sevens_length r ups b (suc i) n)
 
 -- A move of A + 1 bytes takes seven cycles for each: 7 where A is 0, 458,752 where it is FFFF.
 pub move_count : (r : Record) (b : ℕ → ℕ → ℕ) (o : Operation) (n : ℕ) → well_formed r ≡ true → r.held ≡ false → r.pc < 65536 → r.a < 65536
-    → decode_of (b 0 0) ≡ Listed Move o → r.a < n → length (run_move n b r).requests ≡ 7 * (r.a + 1)
+    → decode_of (b 0 0) ≡ Some (Move, o) → r.a < n → length (run_move n b r).requests ≡ 7 * (r.a + 1)
 unfolding whole_move
 move_count r b o n w h near small k fits =
     ap (λ (t : Ran). length t.requests) (whole_move_lem r b o n w h near small k fits)

@@ -1,19 +1,13 @@
 -- The refusals of a cycle in document 01's words, written from its table of counts and not from the lists of cycles.
-use Rattle.std.specs.Prelude.{ℕ, ◌≡◌, Bool, true, false, ◌&&◌, leb, ltb}
-use Rattle.std.proofs.Math.Option.{Option, none as nothing, some}
+use Rattle.std.specs.Prelude.{ℕ, ◌≡◌, Bool, true, false, ◌&&◌, leb, ltb, Option, Some, None, Result, Ok, Err}
+use Rattle.cpu.specs.declared.types.Request.{Request}
 use Rattle.words.specs.Words.{pick}
 use Rattle.flags.specs.declared.Flags.{Flags}
 use Rattle.cpu.specs.Record.{well_formed}
 use Rattle.cpu.specs.declared.types.Record.{Record}
 use Rattle.cpu.specs.declared.types.Refusal.{Refusal}
 use Rattle.cpu.specs.declared.types.Refusal.TheVariants.{Memory, Budget, Room, Malformed, Unlisted, NoCycle, Bank}
-use Rattle.cpu.specs.declared.types.Asked.{Asked}
-use Rattle.cpu.specs.declared.types.Asked.TheVariants.{Ask, No}
-use Rattle.cpu.specs.declared.types.Answer.{Answer}
-use Rattle.cpu.specs.declared.types.Answer.TheVariants.{Next, Refused}
 use Rattle.opcodes.specs.Opcodes.{decode_of, wide_of}
-use Rattle.opcodes.specs.declared.types.Op.{Op}
-use Rattle.opcodes.specs.declared.types.Op.TheVariants as op
 use Rattle.opcodes.specs.declared.types.Operation.{Operation}
 use Rattle.opcodes.specs.declared.types.Shape.{Shape}
 use Rattle.opcodes.specs.declared.types.Shape.TheVariants.{Immediate, Absolute, Direct, StoreAbsolute, StoreDirect, Implied, Xba, Mask, Wdm, Push, Pull, PullP, PullB, PullD, Pea, Pei, Per, Jump, JumpLong, JumpIndirect, JumpIndirectLong, JumpIndexed, Call, CallIndexed, CallLong, Return, ReturnLong, Branch, BranchLong, Move}
@@ -67,8 +61,8 @@ has_cycle s o f d tcu = existing s (wide_of o f.memsel f.indexsel) (unaligned d)
 -- ---- document 01's table of refusals, for a record's next cycle; 1, 2, 3 and 7 are given by runs alone
 abbrev pub Given : Refusal → Record → Type 0
 Given Malformed r = well_formed r ≡ false
-Given Unlisted r = (well_formed r ≡ true) × (r.held ≡ true) × (decode_of r.ir ≡ op.Unlisted)
-Given NoCycle r = (well_formed r ≡ true) × (r.held ≡ true) × ((s : Shape) × ((o : Operation) × ((decode_of r.ir ≡ op.Listed s o) × (has_cycle s o r.flags r.d r.tcu ≡ false))))
+Given Unlisted r = (well_formed r ≡ true) × (r.held ≡ true) × (decode_of r.ir ≡ None)
+Given NoCycle r = (well_formed r ≡ true) × (r.held ≡ true) × ((s : Shape) × ((o : Operation) × ((decode_of r.ir ≡ Some (s, o)) × (has_cycle s o r.flags r.d r.tcu ≡ false))))
 Given Memory r = ⊥
 Given Budget r = ⊥
 Given Room r = ⊥
@@ -76,7 +70,7 @@ Given Bank r = ⊥
 
 -- and last, once the byte is answered: 5 for a fetched one
 abbrev pub GivenLast : Refusal → Record → (b : ℕ) → Type 0
-GivenLast Unlisted r b = (well_formed r ≡ true) × (r.held ≡ false) × (decode_of b ≡ op.Unlisted)
+GivenLast Unlisted r b = (well_formed r ≡ true) × (r.held ≡ false) × (decode_of b ≡ None)
 GivenLast Malformed r b = ⊥
 GivenLast NoCycle r b = ⊥
 GivenLast Memory r b = ⊥
@@ -85,31 +79,31 @@ GivenLast Room r b = ⊥
 GivenLast Bank r b = ⊥
 
 -- ---- the same in its order, as the one refusal if there is one: 4, then 5 and 6 for a held opcode
-abbrev pub held_refusal : Op → Flags → (d tcu : ℕ) → Option Refusal
-held_refusal op.Unlisted f d tcu = some Unlisted
-held_refusal (op.Listed s o) f d tcu = pick (has_cycle s o f d tcu) nothing (some NoCycle)
+abbrev pub held_refusal : Option (Shape × Operation) → Flags → (d tcu : ℕ) → Option Refusal
+held_refusal None f d tcu = Some Unlisted
+held_refusal (Some (s, o)) f d tcu = pick (has_cycle s o f d tcu) None (Some NoCycle)
 
 unfoldable pub refusal_of : Record → Option Refusal
-refusal_of r = pick (well_formed r) (pick r.held (held_refusal (decode_of r.ir) r.flags r.d r.tcu) nothing) (some Malformed)
+refusal_of r = pick (well_formed r) (pick r.held (held_refusal (decode_of r.ir) r.flags r.d r.tcu) None) (Some Malformed)
 
 -- and last, once the byte is answered, 5 for a fetched one
-abbrev pub fetch_refusal : (held : Bool) → Op → Option Refusal
-fetch_refusal true o = nothing
-fetch_refusal false op.Unlisted = some Unlisted
-fetch_refusal false (op.Listed s o) = nothing
+abbrev pub fetch_refusal : (held : Bool) → Option (Shape × Operation) → Option Refusal
+fetch_refusal true o = None
+fetch_refusal false None = Some Unlisted
+fetch_refusal false (Some (s, o)) = None
 
 abbrev pub or_else : Option Refusal → Option Refusal → Option Refusal
-or_else (some n) later = some n
-or_else nothing later = later
+or_else (Some n) later = Some n
+or_else None later = later
 
 unfoldable pub refusal_at : Record → (b : ℕ) → Option Refusal
 refusal_at r b = or_else (refusal_of r) (fetch_refusal r.held (decode_of b))
 
 -- ---- the refusal that a request or an answer is, if it is one
-abbrev pub no_of : Asked → Option Refusal
-no_of (Ask q) = nothing
-no_of (No n) = some n
+abbrev pub no_of : Result Request Refusal → Option Refusal
+no_of (Ok q) = None
+no_of (Err n) = Some n
 
-abbrev pub refused_of : Answer → Option Refusal
-refused_of (Next r) = nothing
-refused_of (Refused n) = some n
+abbrev pub refused_of : Result Record Refusal → Option Refusal
+refused_of (Ok r) = None
+refused_of (Err n) = Some n

@@ -1,12 +1,11 @@
 -- A figure: a row that names a start, the bytes that the bus answers cycle by cycle, then what must be seen: registers and flags after the
 -- instruction, how many cycles it took, what it asked of the bus.
-use Rattle.std.specs.Prelude.{ℕ, ◌+◌, Bool, false, not, ◌&&◌, List, [], ◌∷◌, ◌++◌, map, eqb, length, get_or}
+use Rattle.std.specs.Prelude.{ℕ, ◌+◌, Bool, false, not, ◌&&◌, List, [], ◌∷◌, ◌++◌, map, eqb, length, get_or, Result, Ok, Err}
+use Rattle.cpu.specs.declared.types.Refusal as why
 use Rattle.words.specs.Words.{pick, bit}
 use Rattle.cpu.specs.Record.{number_of}
 use Rattle.cpu.specs.declared.types.Record.{Record}
 use Rattle.cpu.specs.declared.types.Request.{Request}
-use Rattle.cpu.specs.declared.types.Answer.{Answer}
-use Rattle.cpu.specs.declared.types.Answer.TheVariants.{Next, Refused}
 use Rattle.sheet.specs.Run.{Ran, run}
 
 infix 70 ◌is◌
@@ -126,13 +125,13 @@ cycle_after_cycle r b = run 8 b r
 
 pub record Seen : Type 0 where
   pub asked : List Request
-  pub out : Answer
+  pub out : Result Record why.Refusal
   pub ups : ℕ
   pub downs : ℕ
 
-abbrev pub carry_after : Answer → Bool
-carry_after (Next r) = r.flags.carry
-carry_after (Refused k) = false
+abbrev pub carry_after : Result Record why.Refusal → Bool
+carry_after (Ok r) = r.flags.carry
+carry_after (Err k) = false
 
 abbrev pub joined : (opcode : ℕ) → Seen → Ran → Seen
 joined opcode t u = record {
@@ -146,16 +145,16 @@ joined opcode t u = record {
 abbrev pub bytes : List ℕ → ℕ → ℕ
 bytes l k = get_or l k 0
 
-abbrev pub further : Machine → List ℕ → Seen → Answer → Seen
-further via b t (Next r) = joined (bytes b 0) t (via r (bytes b))
-further via b t (Refused k) = t
+abbrev pub further : Machine → List ℕ → Seen → Result Record why.Refusal → Seen
+further via b t (Ok r) = joined (bytes b 0) t (via r (bytes b))
+further via b t (Err k) = t
 
 abbrev pub follow : Machine → List (List ℕ) → Seen → Seen
 follow via [] t = t
 follow via (b ∷ bs) t = follow via bs (further via b t t.out)
 
 abbrev pub runs : Machine → Figure → Seen
-runs via f = follow via f.answers (record { asked = []; out = Next f.start; ups = 0; downs = 0 })
+runs via f = follow via f.answers (record { asked = []; out = Ok f.start; ups = 0; downs = 0 })
 
 -- ---- what is seen of each thing that a row says
 abbrev pub value_of : Name → Seen → Record → ℕ
@@ -187,9 +186,9 @@ value_of Ups t r = t.ups
 value_of Downs t r = t.downs
 value_of Refusal t r = 0
 
-abbrev pub value_after : Name → Seen → Answer → Told
-value_after k t (Next r) = k is value_of k t r
-value_after k t (Refused j) = Refusal is number_of j
+abbrev pub value_after : Name → Seen → Result Record why.Refusal → Told
+value_after k t (Ok r) = k is value_of k t r
+value_after k t (Err j) = Refusal is number_of j
 
 abbrev pub look : Seen → Told → Told
 look t (k is w) = value_after k t t.out

@@ -1,12 +1,11 @@
 -- MVN and MVP from the first byte to the last: byte after byte, as long as the opcode is held.
 -- `b i k` is the byte that is answered in cycle k of the move's byte i.
-use Rattle.std.specs.Prelude.{ℕ, zero, suc, Bool, false, List, [], ◌++◌}
+use Rattle.std.specs.Prelude.{ℕ, zero, suc, Bool, false, List, [], ◌++◌, Result, Ok, Err}
+use Rattle.cpu.specs.declared.types.Refusal.{Refusal}
 use Rattle.words.specs.Words.{pick, up, index}
 use Rattle.cpu.specs.Registers.{stepped}
 use Rattle.cpu.specs.declared.types.Record.{Record}
 use Rattle.cpu.specs.declared.types.Request.{Request}
-use Rattle.cpu.specs.declared.types.Answer.{Answer}
-use Rattle.cpu.specs.declared.types.Answer.TheVariants.{Next, Refused}
 use Rattle.opcodes.specs.declared.types.Operation.TheVariants.{Flag}
 use Rattle.opcodes.specs.declared.types.Shape.TheVariants.{Move}
 use Rattle.sheet.specs.Run.{Ran, run}
@@ -15,9 +14,9 @@ use Rattle.sheet.specs.Sheet.{sheet}
 -- ---- byte after byte, cycle by cycle
 
 -- these requests, then those of another run from the record after them where that is between a move's bytes
-abbrev pub go_on : List Request → Answer → (Record → Ran) → Ran
-go_on q (Refused n) f = record { requests = q; out = Refused n }
-go_on q (Next r) f = pick r.held (record { requests = q ++ (f r).requests; out = (f r).out }) (record { requests = q; out = Next r })
+abbrev pub go_on : List Request → Result Record Refusal → (Record → Ran) → Ran
+go_on q (Err n) f = record { requests = q; out = Err n }
+go_on q (Ok r) f = pick r.held (record { requests = q ++ (f r).requests; out = (f r).out }) (record { requests = q; out = Ok r })
 
 -- the bytes from the second on
 abbrev pub others : (ℕ → ℕ → ℕ) → ℕ → ℕ → ℕ
@@ -25,7 +24,7 @@ others b i = b (suc i)
 
 -- at most n bytes
 unfoldable pub run_move : ℕ → (ℕ → ℕ → ℕ) → Record → Ran
-run_move zero b r = record { requests = []; out = Next r }
+run_move zero b r = record { requests = []; out = Ok r }
 run_move (suc n) b r = go_on (run 8 (b 0) r).requests (run 8 (b 0) r).out (run_move n (others b))
 
 -- ---- the whole move that starts at r
@@ -93,4 +92,4 @@ module _ (r : Record) (ups : Bool) (b : ℕ → ℕ → ℕ) where
 
   -- A + 1 bytes, A being 16 bits at either width; DBR becomes the last byte's destination bank
   unfoldable pub whole_move : Ran
-  whole_move = record { requests = sevens 0 (suc r.a); out = Next (moved r (x_after r ups (suc r.a)) (y_after r ups (suc r.a)) (b r.a 1)) }
+  whole_move = record { requests = sevens 0 (suc r.a); out = Ok (moved r (x_after r ups (suc r.a)) (y_after r ups (suc r.a)) (b r.a 1)) }

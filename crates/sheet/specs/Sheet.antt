@@ -1,7 +1,8 @@
 -- The data sheet's table: for each shape its bus cycles in order, then the record after them.
 -- `b k` is the byte that is answered in cycle k, counted from 0, the opcode fetch.
 -- w: 16 bits wide; d: the low byte of D isn't 0; e: emulation.
-use Rattle.std.specs.Prelude.{ℕ, suc, Bool, true, false, not, ◌&&◌, List, [], ◌∷◌, ◌++◌, eqb}
+use Rattle.std.specs.Prelude.{ℕ, suc, Bool, true, false, not, ◌&&◌, List, [], ◌∷◌, ◌++◌, eqb, Option, Some, None, Result, Ok, Err}
+use Rattle.cpu.specs.declared.types.Refusal.{Refusal}
 use Rattle.words.specs.Words.{pick, low_of, high_of, word, inc, dec, up, down, sum16, displaced, at, sum24, same_page, page_one}
 use Rattle.flags.specs.Flags.{set_byte, set_nz}
 use Rattle.cpu.specs.Registers.{operates, pulls, directs, masks, moves, set_flags, applied, stack_of}
@@ -13,11 +14,7 @@ use Rattle.cpu.specs.declared.types.Stack.TheVariants.{Paged, Raw, Home}
 use Rattle.cpu.specs.declared.types.Request.{Request}
 use Rattle.cpu.specs.declared.types.Kind.TheVariants as kind
 use Rattle.cpu.specs.declared.types.Refusal.TheVariants as refusal
-use Rattle.cpu.specs.declared.types.Answer.{Answer}
-use Rattle.cpu.specs.declared.types.Answer.TheVariants.{Next, Refused}
 use Rattle.opcodes.specs.Opcodes.{decode_of, alu_of, reg_of, source_in, one_in, cond_in, flag_in, wide_of}
-use Rattle.opcodes.specs.declared.types.Op.{Op}
-use Rattle.opcodes.specs.declared.types.Op.TheVariants as op
 use Rattle.opcodes.specs.declared.types.Operation.{Operation}
 use Rattle.opcodes.specs.declared.types.Shape.{Shape}
 use Rattle.opcodes.specs.declared.types.Shape.TheVariants.{Immediate, Absolute, Direct, StoreAbsolute, StoreDirect, Implied, Xba, Mask, Wdm, Push, Pull, PullP, PullB, PullD, Pea, Pei, Per, Jump, JumpLong, JumpIndirect, JumpIndirectLong, JumpIndexed, Call, CallIndexed, CallLong, Return, ReturnLong, Branch, BranchLong, Move}
@@ -97,10 +94,10 @@ module _ (r : Record) (b : ℕ → ℕ) where
   pulling o false = pulls (reg_of o) Only (b 3) regs
 
   -- the end, at a program counter and with a stack pointer, in this bank or in another
-  abbrev pub ends_in : (pbr pc s : ℕ) → Regs → Answer
-  ends_in pbr p s g = Next (ended (b 0) false pbr p s r.dbr g)
+  abbrev pub ends_in : (pbr pc s : ℕ) → Regs → Result Record Refusal
+  ends_in pbr p s g = Ok (ended (b 0) false pbr p s r.dbr g)
 
-  abbrev pub ends : (pc s : ℕ) → Regs → Answer
+  abbrev pub ends : (pc s : ℕ) → Regs → Result Record Refusal
   ends p s g = ends_in r.pbr p s g
 
   abbrev pub sheet : Shape → Operation → (w d e : Bool) → Ran
@@ -171,7 +168,7 @@ module _ (r : Record) (b : ℕ → ℕ) where
   sheet PullB o w d e =
       let s₁ : ℕ = pulled Raw E S in record {
         requests = O (K 0) ∷ I (K 1) ∷ I (K 1) ∷ D (at 0 s₁) ∷ [];
-        out = Next (ended (b 0) false r.pbr (pc 1) s₁ (b 3) (set_flags (set_nz r.flags (b 3) false) regs));
+        out = Ok (ended (b 0) false r.pbr (pc 1) s₁ (b 3) (set_flags (set_nz r.flags (b 3) false) regs));
       }
   -- PLD: 5
   sheet PullD o w d e =
@@ -276,13 +273,13 @@ module _ (r : Record) (b : ℕ → ℕ) where
       let q : ℕ = at (b 1) r.y in
       let last : Bool = eqb (dec r.a) 0xFFFF in record {
         requests = O (K 0) ∷ P (K 1) ∷ P (K 2) ∷ D (at (low_of (b 2)) r.x) ∷ W q (low_of (b 3)) ∷ I q ∷ I q ∷ [];
-        out = Next (ended (b 0) (not last) r.pbr (pick last (pc 3) (pc 0)) S (b 1) (moves (flag_in o) regs));
+        out = Ok (ended (b 0) (not last) r.pbr (pick last (pc 3) (pc 0)) S (b 1) (moves (flag_in o) regs));
       }
 
   -- the row of an opcode; one that isn't listed is refused at its fetch
-  abbrev pub row : Op → Ran
-  row op.Unlisted = only (O (K 0)) (Refused refusal.Unlisted)
-  row (op.Listed s o) = sheet s o (wide_of o r.flags.memsel r.flags.indexsel) (unaligned r.d) E
+  abbrev pub row : Option (Shape × Operation) → Ran
+  row None = only (O (K 0)) (Err refusal.Unlisted)
+  row (Some (s, o)) = sheet s o (wide_of o r.flags.memsel r.flags.indexsel) (unaligned r.d) E
 
   -- the instruction that starts at r
   unfoldable pub instruction : Ran

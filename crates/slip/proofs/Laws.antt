@@ -1,28 +1,27 @@
--- One digit more of a text, after i of them.
-use Prim.Native.Nat.{ℕ, ◌+◌, ◌*◌, ◌≤◌, ◌<◌}
-use mathlib.Core.Path.{◌≡◌}
-use mathlib.Core.Bool.{Bool}
-use mathlib.Core.List.{List}
-use native.Mathlib.Numerals.{add-one}
-use borrow.Author.Tests.{le-leb, lt-leb, lt-ltb, le-ltb}
-use lib.ListN.{length, get_or, drop, drop_of_length-le}
-use lib.Seq.{drop-cons}
-use Rattle.slip.specs.Slip.{value_of, base_of, number_from}
-use Rattle.slip.specs.declared.types.Number.TheVariants.{Good, Bad}
+-- One digit more of a text, after i of them; and what the digits of a word are.
+use Rattle.std.proofs.Common.{◌≡◌, ℕ, ◌+◌, ◌/◌, ◌%◌, ◌<◌, ◌≤◌, Some, None, Bool, List, ◌++◌, length, get_or, drop, add-one, drop-cons, drop_of_length-le, arith}
+use Rattle.words.specs.Words.{word}
+use Rattle.trace.specs.Text.{hex2}
+use Rattle.slip.specs.Slip.{hex4, longer, number_from}
 
-module _ (t : List ℕ) (hex : Bool) (n i d : ℕ) (e : d ≡ value_of (get_or t i 0)) (h : i < length t) where
-  pub not_a_digit : base_of hex ≤ d → number_from hex n (drop i t) ≡ Bad
-  unfolding number_from
-  not_a_digit k = rw (drop-cons t i 0 h, ← e, le-leb _ _ k)
+pub not_a_digit : (t : List ℕ) (hex : Bool) (n i : ℕ) → i < length t → longer hex n (get_or t i 0) ≡ None → number_from hex n (drop i t) ≡ None
+unfolding number_from
+not_a_digit t hex n i h e = rw (drop-cons t i 0 h, number_from, e)
 
-  pub too_large : d < base_of hex → 4294967295 < n * base_of hex + d → number_from hex n (drop i t) ≡ Bad
-  unfolding number_from
-  too_large k l = rw (drop-cons t i 0 h, ← e, lt-leb _ _ k, lt-ltb _ _ l)
+pub next_digit : (t : List ℕ) (hex : Bool) (n m i : ℕ) → i < length t → longer hex n (get_or t i 0) ≡ Some m
+    → number_from hex n (drop i t) ≡ number_from hex m (drop (i + 1) t)
+unfolding number_from
+next_digit t hex n m i h e = rw (drop-cons t i 0 h, number_from, e, add-one i)
 
-  pub next_digit : d < base_of hex → n * base_of hex + d ≤ 4294967295 → number_from hex n (drop i t) ≡ number_from hex (n * base_of hex + d) (drop (i + 1) t)
-  unfolding number_from
-  next_digit k l = rw (drop-cons t i 0 h, ← e, lt-leb _ _ k, le-ltb _ _ l, add-one i)
-
-pub all_digits : (t : List ℕ) (hex : Bool) (n i : ℕ) → length t ≤ i → number_from hex n (drop i t) ≡ Good n
+pub all_digits : (t : List ℕ) (hex : Bool) (n i : ℕ) → length t ≤ i → number_from hex n (drop i t) ≡ Some n
 unfolding number_from
 all_digits t hex n i h = rw (drop_of_length-le t {i = i} h)
+
+-- ---- a word's digits are those of its bytes
+
+pub digits_back : (w l h : ℕ) → l < 256 → w ≡ word l h → hex2 (w / 256) ++ hex2 (w % 256) ≡ hex4 l h
+unfolding word
+digits_back w l h k e =
+    let high : w / 256 ≡ h = omega (arith, e) in
+    let low : w % 256 ≡ l = omega (arith, e) in
+    rw (high, low)

@@ -6,34 +6,38 @@
 --   11 opcode   12 cycle                     2
 --   13 address scratch   14 data scratch     4
 --   15 bank scratch                          2
-use Rattle.std.specs.Prelude.{ℕ, ◌+◌, ◌-◌, ◌*◌, ◌/◌, ◌%◌, Bool, List, [], ◌∷◌, ◌++◌, eqb, ltb, leb, length}
+use Rattle.std.specs.Prelude.{ℕ, ◌+◌, ◌-◌, ◌*◌, ◌/◌, ◌%◌, Bool, List, [], ◌∷◌, ◌++◌, eqb, ltb, leb, length, Option, Some, None}
 use Rattle.words.specs.Words.{pick}
 use Rattle.trace.specs.Text.{hex_digit, hex2}
 use Rattle.packed.specs.Packed.{byte_at, placed}
-use Rattle.slip.specs.declared.types.Number.{Number}
-use Rattle.slip.specs.declared.types.Number.TheVariants.{Good, Bad}
 
 -- ---- reading
 
--- 0 to 9, A to F, a to f; 99 is no digit of any base
-unfoldable pub value_of : ℕ → ℕ
+-- 0 to 9, A to F, a to f
+unfoldable pub value_of : ℕ → Option ℕ
 value_of b =
-    pick (ltb b 48) 99 (pick (ltb b 58) (b - 48) (pick (ltb b 65) 99 (pick (ltb b 71) (b - 55)
-    (pick (ltb b 97) 99 (pick (ltb b 103) (b - 87) 99)))))
+    pick (ltb b 48) None (pick (ltb b 58) (Some (b - 48)) (pick (ltb b 65) None (pick (ltb b 71) (Some (b - 55))
+    (pick (ltb b 97) None (pick (ltb b 103) (Some (b - 87)) None)))))
 
 abbrev pub base_of : (hex : Bool) → ℕ
 base_of hex = pick hex 16 10
 
--- the number n with the digits of a text after it: Bad at the first that isn't a digit or makes it more than 4,294,967,295
-unfoldable pub number_from : (hex : Bool) (n : ℕ) → List ℕ → Number
-number_from hex n [] = Good n
-number_from hex n (b ∷ t) =
-    pick (leb (base_of hex) (value_of b)) Bad
-    (pick (ltb 4294967295 (n * base_of hex + value_of b)) Bad (number_from hex (n * base_of hex + value_of b) t))
+-- the number n with a digit after it: none where that isn't a digit of the base, or makes it more than 4,294,967,295
+abbrev pub with_digit : (hex : Bool) (n : ℕ) → Option ℕ → Option ℕ
+with_digit hex n None = None
+with_digit hex n (Some d) = pick (leb (base_of hex) d) None (pick (ltb 4294967295 (n * base_of hex + d)) None (Some (n * base_of hex + d)))
+
+unfoldable pub longer : (hex : Bool) (n b : ℕ) → Option ℕ
+longer hex n b = with_digit hex n (value_of b)
+
+-- with the digits of a text after it: none at the first that is none
+unfoldable pub number_from : (hex : Bool) (n : ℕ) → List ℕ → Option ℕ
+number_from hex n [] = Some n
+number_from hex n (b ∷ t) = elim (longer hex n b) [ None ↦ None | Some m ↦ number_from hex m t ]
 
 -- 1 to so many digits, and nothing else
-abbrev pub number_of : (hex : Bool) (most : ℕ) → List ℕ → Number
-number_of hex most t = pick (eqb (length t) 0) Bad (pick (ltb most (length t)) Bad (number_from hex 0 t))
+abbrev pub number_of : (hex : Bool) (most : ℕ) → List ℕ → Option ℕ
+number_of hex most t = pick (eqb (length t) 0) None (pick (ltb most (length t)) None (number_from hex 0 t))
 
 -- ---- where words stand
 

@@ -4,4 +4,3 @@
 pub mod line;
 pub mod number;
 pub mod places;
-pub mod types;

@@ -1,94 +1,67 @@
 // Numbers as they are typed: the whole of a lent text, nothing before or after the digits.
-ghost use Rattle.std.specs.Prelude.{◌≡◌, true, false, ◌+◌, ◌*◌, ◌≤◌, ◌<◌};
-ghost use Rattle.slip.specs.Slip.{value_of, base_of, number_from, number_of};
+ghost use Rattle.std.specs.Prelude.{◌≡◌, true, false};
+ghost use Rattle.slip.specs.Slip.{value_of, base_of, longer, number_from, number_of};
 
-use crate::types::Number;
-
-// A digit's value, in either case; 99 for any other character, which no base has.
-fn value(b: u8) -> u8
-    ensures value { result ≡ value_of b }
-    ensures small { result ≤ 99 }
+// A hex digit's value, in either case.
+#[tactic(auto, unfolding(crate::specs::Slip::value_of))]
+fn value(b: u8) -> Option<u32>
+    ensures { result ≡ value_of b }
 {
-    if b < 48 {
-        return 99;
+    match b {
+        b'0'..=b'9' => Some(b as u32 - 48),
+        b'A'..=b'F' => Some(b as u32 - 55),
+        b'a'..=b'f' => Some(b as u32 - 87),
+        _ => None,
     }
-    if b < 58 {
-        return b - 48;
-    }
-    if b < 65 {
-        return 99;
-    }
-    if b < 71 {
-        return b - 55;
-    }
-    if b < 97 {
-        return 99;
-    }
-    if b < 103 {
-        return b - 87;
-    }
-    99
 }
 
-fn base(hex: bool) -> u8
+fn base(hex: bool) -> u32
     ensures { result ≡ base_of hex }
 {
     if hex { 16 } else { 10 }
 }
 
-// A number with one more digit after it.
-fn longer(hex: bool, n: u64, d: u8) -> u64
-    requires { n ≤ 4294967295 }
-    ensures { result ≡ n * base_of hex + d }
+// The number with one more digit after it, if that is one of the base and the number isn't too large then.
+#[tactic(auto, unfolding(crate::specs::Slip::longer))]
+fn longer(n: u32, b: u8, hex: bool) -> Option<u32>
+    ensures { result ≡ longer hex n b }
 {
-    if hex {
-        n * 16 + (d as u64)
-    } else {
-        n * 10 + (d as u64)
+    let d = value(b)?;
+    if base(hex) <= d {
+        return None;
     }
+    n.checked_mul(base(hex))?.checked_add(d)
 }
 
 // The number that the digits of a text make up.
-fn number_from(text: &[u8], hex: bool) -> Number
+fn number_from(text: &[u8], hex: bool) -> Option<u32>
     ensures { result ≡ number_from hex 0 text.now }
 {
-    let mut n: u64 = 0;
-    let mut i: usize = 0;
-    while i < text.len() {
-        let d = value(text[i]);
-        if base(hex) <= d {
-            return Number::Bad;
-        }
-        n = longer(hex, n, d);
-        if 4_294_967_295 < n {
-            return Number::Bad;
-        }
-        i += 1;
+    let mut n = 0;
+    for b in text {
+        n = longer(n, *b, hex)?;
     }
-    Number::Good(n as u32)
+    Some(n)
 }
 
-fn number(text: &[u8], hex: bool, most: usize) -> Number
+fn number(text: &[u8], hex: bool, most: usize) -> Option<u32>
     ensures { result ≡ number_of hex most text.now }
 {
-    if text.len() == 0 {
-        return Number::Bad;
-    }
-    if most < text.len() {
-        return Number::Bad;
+    if text.is_empty() || most < text.len() {
+        return None;
     }
     number_from(text, hex)
 }
 
 // A word of 1 to `most` hex digits.
-pub fn hex(text: &[u8], most: usize) -> Number
+pub fn hex(text: &[u8], most: usize) -> Option<u32>
     ensures { result ≡ number_of true most text.now }
 {
     number(text, true, most)
 }
 
 // A decimal number of 1 to 10 digits.
-pub fn decimal(text: &[u8]) -> Number
+pub fn decimal(text: &[u8]) -> Option<u32>
     ensures { result ≡ number_of false 10 text.now }
 {
     number(text, false, 10)

@@ -5,50 +5,34 @@ ghost use Rattle.slip.specs.Slip.{digits_of, place_of, laid};
 use packed::bytes::put;
 
 // How many hex digits word k has; there is no word past 15.
+#[tactic(auto, unfolding(crate::specs::Slip::digits_of))]
 pub fn digits(k: usize) -> usize
     ensures { result ≡ digits_of k }
 {
-    if k < 6 {
-        return 4;
+    match k {
+        0..=5 | 13 | 14 => 4,
+        6..=8 | 11 | 12 | 15 => 2,
+        9 | 10 => 1,
+        _ => 0,
     }
-    if k < 9 {
-        return 2;
-    }
-    if k < 11 {
-        return 1;
-    }
-    if k < 13 {
-        return 2;
-    }
-    if k < 15 {
-        return 4;
-    }
-    if k < 16 {
-        return 2;
-    }
-    0
 }
 
 // Where word k begins in the 32 bytes; past 15 beyond them.
+#[tactic(auto, unfolding(crate::specs::Slip::place_of))]
 fn place(k: usize) -> usize
     ensures { result ≡ place_of k }
 {
-    if k < 6 {
-        return 4 + 2 * k;
+    match k {
+        0..=5 => 4 + 2 * k,
+        6..=9 => 10 + k,
+        10..=12 => k - 9,
+        13..=15 => 2 * k - 6,
+        _ => 32,
     }
-    if k < 10 {
-        return 10 + k;
-    }
-    if k < 13 {
-        return k - 9;
-    }
-    if k < 16 {
-        return 2 * k - 6;
-    }
-    32
 }
 
 // Word k at its place in a packed record. Where the bytes have no room for it nothing happens.
+#[tactic(auto, unfolding(crate::specs::Slip::laid))]
 pub fn lay(bytes: &mut [u8], k: usize, n: u32)
     ensures { bytes.new ≡ laid bytes.old k n }
 {

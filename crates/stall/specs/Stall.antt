@@ -1,24 +1,21 @@
 -- A session by hand: what a typed line means, and how a request is shown.
-use Rattle.std.specs.Prelude.{ℕ, ◌+◌, ◌*◌, ◌/◌, ◌%◌, Bool, true, List, [], ◌∷◌, ◌==◌}
+use Rattle.std.specs.Prelude.{ℕ, ◌+◌, ◌*◌, ◌/◌, ◌%◌, Bool, true, ◌&&◌, List, [], ◌∷◌, ◌==◌, length, nat_eq, Option, Some, None}
+use Rattle.std.specs.Cmp.Lexicographic.{pointwise}
 use Rattle.words.specs.Words.{pick}
 use Rattle.trace.specs.Text.{hex_digit}
 use Rattle.packed.specs.Packed.{byte_at}
 use Rattle.slip.specs.Slip.{number_of}
-use Rattle.slip.specs.declared.types.Number.{Number}
-use Rattle.slip.specs.declared.types.Number.TheVariants.{Good, Bad}
-use Rattle.lines.specs.Text.{same_at}
+use Rattle.stall.specs.declared.meaning.Said.{Said}
+use Rattle.stall.specs.declared.meaning.Said.TheVariants.{Byte, Record, Quit, Other}
 
 -- ---- a typed line
 
-abbrev pub byte_by : Number → ℕ
-byte_by (Good n) = n % 256
-byte_by Bad = 259
+abbrev pub byte_by : Option ℕ → Said
+byte_by (Some n) = Byte (n % 256)
+byte_by None = Other
 
-unfoldable pub byte_meant : List ℕ → ℕ
-byte_meant room = byte_by (number_of true 2 (byte_at room 0 ∷ byte_at room 1 ∷ []))
-
-abbrev pub chosen : Bool → ℕ → ℕ
-chosen t n = pick t n 259
+unfoldable pub byte_meant : List ℕ → Said
+byte_meant pair = byte_by (number_of true 2 pair)
 
 -- `quit` and `record`
 abbrev pub quit : List ℕ
@@ -27,12 +24,14 @@ quit = 113 ∷ 117 ∷ 105 ∷ 116 ∷ []
 abbrev pub record_word : List ℕ
 record_word = 114 ∷ 101 ∷ 99 ∷ 111 ∷ 114 ∷ 100 ∷ []
 
-abbrev pub meant_of : (room : List ℕ) (n : ℕ) (write : Bool) → ℕ
-meant_of room n write =
-    pick (n == 0) (chosen write 0)
-    (pick (n == 2) (byte_meant room)
-    (pick (n == 4) (chosen (same_at room 0 quit) 258)
-    (pick (n == 6) (chosen (same_at room 0 record_word) 257) (chosen (n == 9) 258))))
+-- none is the end of the input
+abbrev pub meant_of : (line : Option (List ℕ)) (write : Bool) → Said
+meant_of None write = Quit
+meant_of (Some line) write =
+    pick (length line == 2) (byte_meant line)
+    (pick (pointwise nat_eq line quit) Quit
+    (pick (pointwise nat_eq line record_word) Record
+    (pick (write && (length line == 0)) (Byte 0) Other)))
 
 -- ---- a request: bits 0-23 address, 24-31 byte, 32-39 kind, 40 write
 

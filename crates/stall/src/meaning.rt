@@ -1,46 +1,49 @@
-// What a typed line means, as a number: below 256 the byte that it answers, else one of three words.
+// What a typed line means.
 ghost use Rattle.std.specs.Prelude.{◌≡◌};
-ghost use Rattle.stall.specs.Stall.{byte_meant, chosen, meant_of};
+ghost use Rattle.std.specs.Option.{option_copied};
+ghost use Rattle.stall.specs.Stall.{byte_meant, meant_of};
 
-use lines::text::same;
 use slip::number::hex;
-use slip::types::Number;
 
-// Two hex digits, or 259.
+// A byte that answers, one of two words, or nothing that is known.
+#[derive(Clone, Copy, Debug, PartialEq, Eq)]
+pub enum Said {
+    Byte(u8),
+    Record,
+    Quit,
+    Other,
+}
+
+// Two hex digits.
 #[tactic(auto, unfolding(crate::specs::Stall::byte_meant))]
-fn byte(room: &[u8; 8]) -> u32
-    ensures { result ≡ byte_meant room.now }
+fn byte(pair: &[u8]) -> Said
+    ensures { result ≡ byte_meant pair.now }
 {
-    let pair = [room[0], room[1]];
-    let read = hex(&pair, 2);
-    match read {
-        Number::Good(n) => n % 256,
-        Number::Bad => 259,
+    match hex(pair, 2) {
+        Some(n) => Said::Byte((n % 256) as u8),
+        None => Said::Other,
     }
 }
 
-fn choose(t: bool, n: u32) -> u32
-    ensures { result ≡ chosen t n }
+// A line to a request that writes or reads; the end of the input, where there is none, is as good as `quit`. After a write nothing has to be typed.
+pub fn meant(line: Option<&[u8]>, write: bool) -> Said
+    ensures { result ≡ meant_of (option_copied line.entry) write }
 {
-    if t { n } else { 259 }
-}
-
-// A line of n characters, at most 8 counted, to a request that writes or reads: 257 is `record`, 258 `quit` or the end of the input, whose n is 9,
-// 259 anything else. After a write nothing has to be typed.
-pub fn meant(room: &[u8; 8], n: usize, write: bool) -> u32
-    ensures { result ≡ meant_of room.now n write }
-{
-    if n == 0 {
-        return choose(write, 0);
+    let Some(line) = line else {
+        return Said::Quit;
+    };
+    if line.len() == 2 {
+        return byte(line);
     }
-    if n == 2 {
-        return byte(room);
+    if line == b"quit".as_slice() {
+        return Said::Quit;
     }
-    if n == 4 {
-        return choose(same(room, 0, b"quit"), 258);
+    if line == b"record".as_slice() {
+        return Said::Record;
     }
-    if n == 6 {
-        return choose(same(room, 0, b"record"), 257);
+    if write && line.is_empty() {
+        Said::Byte(0)
+    } else {
+        Said::Other
     }
-    choose(n == 9, 258)
 }

@@ -10,7 +10,7 @@ ghost use Rattle.step.specs.Cycle.{well_micro, micro_of, begun_if, begun, asked_
 use act::arrive::act;
 use bus::{ask, code, read};
 use cpu::record::{mid, regs, under_way, well_formed};
-use cpu::types::{Answer, Asked, Kind, Record, Refusal};
+use cpu::types::{Kind, Record, Refusal, Request};
 use cycles::types::Micro;
 use decode::decode;
 use herdbook::entry;
@@ -23,94 +23,89 @@ use shapes::shape_of;
 pub fn well_micro(r: Record) -> Micro
     ensures { result ≡ well_micro r }
 {
-    let held = r.held;
-    if held {
-        let f = r.flags;
-        held_micro(entry(r.ir), f, r.d, r.tcu)
+    if r.held {
+        held_micro(entry(r.ir), r.flags, r.d, r.tcu)
     } else {
         Micro::Fetch
     }
 }
 
 // What any record's next cycle does: refusal 4 first.
+#[tactic(auto, unfolding(crate::specs::Cycle::micro_of))]
 pub fn next_micro(r: Record) -> Micro
     ensures { result ≡ micro_of r }
 {
-    let well = well_formed(r);
-    if well {
-        well_micro(r)
-    } else {
-        Micro::Refuse(Refusal::Malformed)
+    if !well_formed(r) {
+        return Micro::Refuse(Refusal::Malformed);
     }
+    well_micro(r)
 }
 
-// The same by the plain decode, for the two entries.
+// The same by the plain decode, for the two entries. The decode as an `impl Fn` would be no plainer: two facts about it to require.
+#[tactic(auto, unfolding(crate::specs::Cycle::micro_of))]
 fn decoded_micro(r: Record) -> Micro
     ensures { result ≡ micro_of r }
 {
-    let well = well_formed(r);
-    let held = r.held;
-    if well {
-        if held {
-            let f = r.flags;
-            held_micro(decode(r.ir), f, r.d, r.tcu)
-        } else {
-            Micro::Fetch
-        }
+    if !well_formed(r) {
+        return Micro::Refuse(Refusal::Malformed);
+    }
+    if r.held {
+        held_micro(decode(r.ir), r.flags, r.d, r.tcu)
     } else {
-        Micro::Refuse(Refusal::Malformed)
+        Micro::Fetch
     }
 }
 
 // The opcode's byte, once it is known whether it is listed.
-fn begin_if(known: bool, r: Record, b: u8) -> Answer
+fn begin_if(known: bool, r: Record, b: u8) -> Result<Record, Refusal>
     ensures { result ≡ begun_if known r b }
 {
     if known {
-        Answer::Next(under_way(b, 1, r.pbr, regs(r), step_pc(mid(r))))
+        Ok(under_way(b, 1, r.pbr, regs(r), step_pc(mid(r))))
     } else {
-        Answer::Refused(Refusal::Unlisted)
+        Err(Refusal::Unlisted)
     }
 }
 
 // The opcode's byte: the first cycle of its instruction comes next, or refusal 5. The loops call it, so it looks at no table.
-pub fn begin(r: Record, b: u8) -> Answer
+pub fn begin(r: Record, b: u8) -> Result<Record, Refusal>
     ensures { result ≡ begun (decode_of b) r b }
 {
     begin_if(listed(b), r, b)
 }
 
 // What a cycle asks, once it is known what it does.
-pub fn request_at(r: Record, m: Micro) -> Asked
+pub fn request_at(r: Record, m: Micro) -> Result<Request, Refusal>
     ensures { result ≡ asked_by m r }
 {
     match m {
-        Micro::Refuse(n) => Asked::No(n),
-        Micro::Fetch => Asked::Ask(read(Kind::Opcode, code(r))),
-        Micro::Held(q, _, _, _, o) => Asked::Ask(ask(q, o, r)),
+        Micro::Refuse(n) => Err(n),
+        Micro::Fetch => Ok(read(Kind::Opcode, code(r))),
+        Micro::Held(q, _, _, _, o) => Ok(ask(q, o, r)),
     }
 }
 
 // What the answered byte makes of the record, likewise.
-pub fn answer_at(r: Record, m: Micro, b: u8) -> Answer
+pub fn answer_at(r: Record, m: Micro, b: u8) -> Result<Record, Refusal>
     ensures { result ≡ answered_by m r b }
 {
     match m {
-        Micro::Refuse(n) => Answer::Refused(n),
+        Micro::Refuse(n) => Err(n),
         Micro::Fetch => begin(r, b),
-        Micro::Held(_, k, c, t, o) => Answer::Next(act(k, c, t, o, r, b)),
+        Micro::Held(_, k, c, t, o) => Ok(act(k, c, t, o, r, b)),
     }
 }
 
 // What a record asks of the bus, or the refusal: 4, 5 or 6.
-pub fn request(r: Record) -> Asked
+#[tactic(auto, unfolding(crate::specs::Cycle::request_of))]
+pub fn request(r: Record) -> Result<Request, Refusal>
     ensures { result ≡ request_of r }
 {
     request_at(r, decoded_micro(r))
 }
 
 // The record after the answered byte, or the refusal: 4, 5 or 6. After a write the byte is ignored.
-pub fn answer(r: Record, b: u8) -> Answer
+pub fn answer(r: Record, b: u8) -> Result<Record, Refusal>
     ensures { result ≡ answer_of r b }
 {
     let m = decoded_micro(r);

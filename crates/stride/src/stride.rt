@@ -2,7 +2,7 @@
 ghost use Rattle.std.specs.Prelude.{◌≡◌, ◌&&◌, ◌+◌, ◌<◌, eqb, ltb, length, get_or};
 ghost use Rattle.words.specs.Words.{pick, bit, word, inc, sum16};
 ghost use Rattle.cpu.specs.Registers.{applied, stack_of};
-ghost use Rattle.cpu.specs.Record.{regs_of, same};
+ghost use Rattle.cpu.specs.Record.{regs_of};
 ghost use Rattle.cycles.specs.Cycles.{unaligned};
 ghost use Rattle.quick.specs.Quick.{goes};
 ghost use Rattle.quick.specs.declared.types.Quick.TheVariants.{Read, Store, If, Jump};
@@ -13,14 +13,15 @@ use alu::types::Alu;
 use brisk::regs::{applied, worked};
 use cpu::change::stack_of;
 use cpu::record::{finished, is_wide_source, source};
-use cpu::registers::{choose, is_wide};
+use cpu::registers::is_wide;
 use cpu::types::{One, Record, Reg, Regs, Source};
 use flags::Flags;
 use quick::quick;
 use quick::types::{Mode, Quick, Test};
-use words::{add, add_signed, both, high, join, low, one_if, same_page, up};
+use words::{add, add_signed, both, choose, high, join, low, one_if, same_page, up};
 
 // The registers, flag by flag: a copy of all nine at once makes a processor wait for those that were written one by one.
+// `cpu::record::regs` copies them at once: flag by flag it halved the speed of a session (docs/SPEED.md).
 fn regs(r: Record) -> Regs
     ensures { result ≡ regs_of r }
 {
@@ -44,15 +45,13 @@ fn regs(r: Record) -> Regs
     }
 }
 
-fn peek(mem: &[u8], p: u16) -> u8
-    requires { length mem.now ≡ 65536 }
+fn peek(mem: &[u8; 65536], p: u16) -> u8
     ensures { result ≡ get_or mem.now p 0 }
 {
     mem[p as usize]
 }
 
-fn peek_word(mem: &[u8], p: u16) -> u16
-    requires { length mem.now ≡ 65536 }
+fn peek_word(mem: &[u8; 65536], p: u16) -> u16
     ensures { result ≡ word (get_or mem.now p 0) (get_or mem.now (inc p) 0) }
 {
     join(peek(mem, p), peek(mem, up(p)))
@@ -87,24 +86,17 @@ fn is_inside(dbr: u8, p: u16) -> bool
     both(dbr == 0, p < 65535)
 }
 
-fn count_if(t: bool, n: u8) -> u8
-    ensures { result ≡ pick t n 0 }
-{
-    if t { n } else { 0 }
-}
-
 fn absolute(wide: bool, pc: u16, dbr: u8, p: u16) -> Spot
     ensures { result ≡ spot p (pick (eqb dbr 0 && ltb p 65535) (4 + bit wide) 0) (inc (inc (inc pc))) }
 {
     Spot {
         place: p,
-        cycles: count_if(is_inside(dbr, p), 4 + one_if(wide)),
+        cycles: choose(is_inside(dbr, p), 4 + one_if(wide), 0),
         pc: up(up(up(pc))),
     }
 }
 
-fn spot_of(mode: Mode, wide: bool, r: Record, mem: &[u8]) -> Spot
-    requires { length mem.now ≡ 65536 }
+fn spot_of(mode: Mode, wide: bool, r: Record, mem: &[u8; 65536]) -> Spot
     ensures { result ≡ spot_of r mem.now mode wide }
 {
     match mode {
@@ -114,8 +106,7 @@ fn spot_of(mode: Mode, wide: bool, r: Record, mem: &[u8]) -> Spot
     }
 }
 
-fn read(mode: Mode, k: Alu, g: Reg, r: Record, mem: &[u8]) -> Leg
-    requires { length mem.now ≡ 65536 }
+fn read(mode: Mode, k: Alu, g: Reg, r: Record, mem: &[u8; 65536]) -> Leg
     ensures { result ≡ leg_by r mem.now (Read mode k g) }
 {
     let f = r.flags;
@@ -138,8 +129,7 @@ fn read(mode: Mode, k: Alu, g: Reg, r: Record, mem: &[u8]) -> Leg
     }
 }
 
-fn poke(wide: bool, p: u16, v: u16, mem: &mut [u8])
-    requires { length mem.old ≡ 65536 }
+fn poke(wide: bool, p: u16, v: u16, mem: &mut [u8; 65536])
     ensures { mem.new ≡ placed wide p v mem.old }
 {
     mem[p as usize] = low(v);
@@ -149,8 +139,7 @@ fn poke(wide: bool, p: u16, v: u16, mem: &mut [u8])
 }
 
 // What isn't done in any cycle changes nothing.
-fn poke_in(cycles: u8, wide: bool, p: u16, v: u16, mem: &mut [u8])
-    requires { length mem.old ≡ 65536 }
+fn poke_in(cycles: u8, wide: bool, p: u16, v: u16, mem: &mut [u8; 65536])
     ensures { mem.new ≡ pick (eqb cycles 0) mem.old (placed wide p v mem.old) }
 {
     if cycles != 0 {
@@ -158,8 +147,7 @@ fn poke_in(cycles: u8, wide: bool, p: u16, v: u16, mem: &mut [u8])
     }
 }
 
-fn store(mode: Mode, k: Source, r: Record, mem: &mut [u8]) -> Leg
-    requires { length mem.old ≡ 65536 }
+fn store(mode: Mode, k: Source, r: Record, mem: &mut [u8; 65536]) -> Leg
     ensures { (result ≡ leg_by r mem.old (Store mode k)) × (mem.new ≡ mem_by r mem.old (Store mode k)) }
 {
     let f = r.flags;
@@ -180,8 +168,8 @@ fn kept(cycles: u8, pc: u16, r: Record) -> Leg
     ensures { result ≡ leg cycles pc r.s r.dbr (regs_of r) }
 {
     Leg {
-        cycles: cycles,
-        pc: pc,
+        cycles,
+        pc,
         s: r.s,
         dbr: r.dbr,
         regs: regs(r),
@@ -203,30 +191,23 @@ fn one(k: One, r: Record) -> Leg
 fn branch_cycles(go: bool, page: bool) -> u8
     ensures { result ≡ pick go (3 + bit page) 2 }
 {
-    if go { 3 + one_if(page) } else { 2 }
+    choose(go, 3 + one_if(page), 2)
 }
 
-// Whether a flag is what a branch wants.
-fn is_so(want: bool, flag: bool) -> bool
-    ensures { result ≡ same want flag }
-{
-    if want { flag } else { !flag }
-}
-
+// Whether a branch is taken: whether its flag is what it wants.
 fn is_taken(k: Test, want: bool, f: Flags) -> bool
     ensures { result ≡ goes k want f }
 {
     match k {
         Test::Always => true,
-        Test::Carry => is_so(want, f.carry),
-        Test::Zero => is_so(want, f.zero),
-        Test::Negative => is_so(want, f.negative),
-        Test::Overflow => is_so(want, f.overflow),
+        Test::Carry => f.carry == want,
+        Test::Zero => f.zero == want,
+        Test::Negative => f.negative == want,
+        Test::Overflow => f.overflow == want,
     }
 }
 
-fn branch(k: Test, want: bool, r: Record, mem: &[u8]) -> Leg
-    requires { length mem.now ≡ 65536 }
+fn branch(k: Test, want: bool, r: Record, mem: &[u8; 65536]) -> Leg
     ensures { result ≡ leg_by r mem.now (If k want) }
 {
     let f = r.flags;
@@ -237,15 +218,13 @@ fn branch(k: Test, want: bool, r: Record, mem: &[u8]) -> Leg
     kept(branch_cycles(go, page), choose(go, to, past), r)
 }
 
-fn jump(r: Record, mem: &[u8]) -> Leg
-    requires { length mem.now ≡ 65536 }
+fn jump(r: Record, mem: &[u8; 65536]) -> Leg
     ensures { result ≡ leg_by r mem.now Jump }
 {
     kept(3, peek_word(mem, up(r.pc)), r)
 }
 
-fn leg_of(q: Quick, r: Record, mem: &mut [u8]) -> Leg
-    requires { length mem.old ≡ 65536 }
+fn leg_of(q: Quick, r: Record, mem: &mut [u8; 65536]) -> Leg
     ensures { (result ≡ leg_by r mem.old q) × (mem.new ≡ mem_by r mem.old q) }
 {
     match q {
@@ -264,8 +243,10 @@ fn arrive(op: u8, r: Record, l: Leg) -> Stretch
     if l.cycles == 0 {
         stretch_of(0, r)
     } else {
-        let g = l.regs;
-        stretch_of(l.cycles as u32, finished(op, false, 0, l.pc, l.s, l.dbr, g))
+        stretch_of(
+            l.cycles as u32,
+            finished(op, false, 0, l.pc, l.s, l.dbr, l.regs),
+        )
     }
 }
 
@@ -273,10 +254,7 @@ fn arrive(op: u8, r: Record, l: Leg) -> Stretch
 pub fn stretch_of(cycles: u32, after: Record) -> Stretch
     ensures { result ≡ stretch cycles after }
 {
-    Stretch {
-        cycles: cycles,
-        after: after,
-    }
+    Stretch { cycles, after }
 }
 
 // PC lies inside the memory: so much is known of a word that is handed over, and the law asks for it.
@@ -285,8 +263,7 @@ fn word_inside(pc: u16)
 {}
 
 // An instruction of a memory that is whole.
-fn stride_in(r: Record, mem: &mut [u8]) -> Stretch
-    requires { length mem.old ≡ 65536 }
+fn stride_in(r: Record, mem: &mut [u8; 65536]) -> Stretch
     ensures { (result ≡ strode_by r (opcode r mem.old) (leg_of r mem.old)) × (mem.new ≡ mem_of r mem.old) }
 {
     let op = peek(mem, r.pc);
@@ -305,23 +282,15 @@ pub fn is_fresh(r: Record) -> bool
 pub fn cleared(r: Record) -> Record
     ensures { result ≡ cleared_of r }
 {
-    let f = r.flags;
     Record {
-        a: r.a,
-        x: r.x,
-        y: r.y,
-        s: r.s,
-        d: r.d,
-        pc: r.pc,
         pbr: 0,
-        dbr: r.dbr,
-        flags: f,
         held: false,
         ir: 0,
         tcu: 0,
         tempaddr: 0,
         tempdata: 0,
         tempbank: 0,
+        ..r
     }
 }
 
@@ -331,9 +300,8 @@ pub fn stride(r: Record, mem: &mut [u8]) -> Stretch
     ensures inside { r.pc < 65536 }
 {
     word_inside(r.pc);
-    if mem.len() == 65536 {
-        stride_in(r, mem)
-    } else {
-        stretch_of(0, r)
-    }
+    let Some(whole) = mem.as_mut_array::<65536>() else {
+        return stretch_of(0, r);
+    };
+    stride_in(r, whole)
 }

@@ -1,5 +1,7 @@
 -- The table of counts and lengths agrees with document 01's.
 use Prim.Native.Nat.{ℕ, zero, suc, ◌+◌, ◌*◌, ◌≤◌, ◌<◌}
+use Rattle.opcodes.specs.declared.types.Operation.{Operation}
+use Rattle.std.proofs.Common.{Option, Some, None}
 use native.Mathlib.Omega.{arith}
 use native.Mathlib.Nat.{le_of_suc-le-suc, not-suc-le-zero}
 use mathlib.Core.Path.{◌≡◌, refl}
@@ -9,8 +11,6 @@ use lib.ListN.{get_or}
 use Rattle.words.specs.Words.{pick}
 use Rattle.flags.specs.declared.Flags.{Flags}
 use Rattle.opcodes.specs.Opcodes.{wide_of}
-use Rattle.opcodes.specs.declared.types.Op.{Op}
-use Rattle.opcodes.specs.declared.types.Op.TheVariants.{Unlisted, Listed}
 use Rattle.opcodes.specs.declared.types.Shape.{Shape}
 use Rattle.opcodes.specs.declared.types.Shape.TheVariants.{Immediate, Absolute, Direct, StoreAbsolute, StoreDirect, Implied, Xba, Mask, Wdm, Push, Pull, PullP, PullB, PullD, Pea, Pei, Per, Jump, JumpLong, JumpIndirect, JumpIndirectLong, JumpIndexed, Call, CallIndexed, CallLong, Return, ReturnLong, Branch, BranchLong, Move}
 use Rattle.cycles.specs.Cycles.{unaligned}
@@ -18,39 +18,39 @@ use Rattle.sheet.specs.Counts.{count_of, length_of}
 use Rattle.shapes.specs.Shapes.{shape_number}
 use Rattle.tables.specs.Counts.{base_of, wider_of, later_of, bytes_of, longer_of, column_at, wide_at, count_at, length_at}
 
-abbrev pub counts : List ℕ
+abbrev pub counts : List (List ℕ)
 counts =
-    0 ∷ 0 ∷ 0 ∷ 0 ∷ 0 ∷
-    2 ∷ 1 ∷ 0 ∷ 2 ∷ 1 ∷
-    4 ∷ 1 ∷ 0 ∷ 3 ∷ 0 ∷
-    3 ∷ 1 ∷ 1 ∷ 2 ∷ 0 ∷
-    4 ∷ 1 ∷ 0 ∷ 3 ∷ 0 ∷
-    3 ∷ 1 ∷ 1 ∷ 2 ∷ 0 ∷
-    2 ∷ 0 ∷ 0 ∷ 1 ∷ 0 ∷
-    3 ∷ 0 ∷ 0 ∷ 1 ∷ 0 ∷
-    3 ∷ 0 ∷ 0 ∷ 2 ∷ 0 ∷
-    2 ∷ 0 ∷ 0 ∷ 2 ∷ 0 ∷
-    3 ∷ 1 ∷ 0 ∷ 1 ∷ 0 ∷
-    4 ∷ 1 ∷ 0 ∷ 1 ∷ 0 ∷
-    4 ∷ 0 ∷ 0 ∷ 1 ∷ 0 ∷
-    4 ∷ 0 ∷ 0 ∷ 1 ∷ 0 ∷
-    5 ∷ 0 ∷ 0 ∷ 1 ∷ 0 ∷
-    5 ∷ 0 ∷ 0 ∷ 3 ∷ 0 ∷
-    6 ∷ 0 ∷ 1 ∷ 2 ∷ 0 ∷
-    6 ∷ 0 ∷ 0 ∷ 3 ∷ 0 ∷
-    3 ∷ 0 ∷ 0 ∷ 3 ∷ 0 ∷
-    4 ∷ 0 ∷ 0 ∷ 4 ∷ 0 ∷
-    5 ∷ 0 ∷ 0 ∷ 3 ∷ 0 ∷
-    6 ∷ 0 ∷ 0 ∷ 3 ∷ 0 ∷
-    6 ∷ 0 ∷ 0 ∷ 3 ∷ 0 ∷
-    6 ∷ 0 ∷ 0 ∷ 3 ∷ 0 ∷
-    8 ∷ 0 ∷ 0 ∷ 3 ∷ 0 ∷
-    8 ∷ 0 ∷ 0 ∷ 4 ∷ 0 ∷
-    6 ∷ 0 ∷ 0 ∷ 1 ∷ 0 ∷
-    6 ∷ 0 ∷ 0 ∷ 1 ∷ 0 ∷
-    2 ∷ 0 ∷ 0 ∷ 2 ∷ 0 ∷
-    4 ∷ 0 ∷ 0 ∷ 3 ∷ 0 ∷
-    7 ∷ 0 ∷ 0 ∷ 3 ∷ 0 ∷ []
+    (0 ∷ 0 ∷ 0 ∷ 0 ∷ 0 ∷ []) ∷
+    (2 ∷ 1 ∷ 0 ∷ 2 ∷ 1 ∷ []) ∷
+    (4 ∷ 1 ∷ 0 ∷ 3 ∷ 0 ∷ []) ∷
+    (3 ∷ 1 ∷ 1 ∷ 2 ∷ 0 ∷ []) ∷
+    (4 ∷ 1 ∷ 0 ∷ 3 ∷ 0 ∷ []) ∷
+    (3 ∷ 1 ∷ 1 ∷ 2 ∷ 0 ∷ []) ∷
+    (2 ∷ 0 ∷ 0 ∷ 1 ∷ 0 ∷ []) ∷
+    (3 ∷ 0 ∷ 0 ∷ 1 ∷ 0 ∷ []) ∷
+    (3 ∷ 0 ∷ 0 ∷ 2 ∷ 0 ∷ []) ∷
+    (2 ∷ 0 ∷ 0 ∷ 2 ∷ 0 ∷ []) ∷
+    (3 ∷ 1 ∷ 0 ∷ 1 ∷ 0 ∷ []) ∷
+    (4 ∷ 1 ∷ 0 ∷ 1 ∷ 0 ∷ []) ∷
+    (4 ∷ 0 ∷ 0 ∷ 1 ∷ 0 ∷ []) ∷
+    (4 ∷ 0 ∷ 0 ∷ 1 ∷ 0 ∷ []) ∷
+    (5 ∷ 0 ∷ 0 ∷ 1 ∷ 0 ∷ []) ∷
+    (5 ∷ 0 ∷ 0 ∷ 3 ∷ 0 ∷ []) ∷
+    (6 ∷ 0 ∷ 1 ∷ 2 ∷ 0 ∷ []) ∷
+    (6 ∷ 0 ∷ 0 ∷ 3 ∷ 0 ∷ []) ∷
+    (3 ∷ 0 ∷ 0 ∷ 3 ∷ 0 ∷ []) ∷
+    (4 ∷ 0 ∷ 0 ∷ 4 ∷ 0 ∷ []) ∷
+    (5 ∷ 0 ∷ 0 ∷ 3 ∷ 0 ∷ []) ∷
+    (6 ∷ 0 ∷ 0 ∷ 3 ∷ 0 ∷ []) ∷
+    (6 ∷ 0 ∷ 0 ∷ 3 ∷ 0 ∷ []) ∷
+    (6 ∷ 0 ∷ 0 ∷ 3 ∷ 0 ∷ []) ∷
+    (8 ∷ 0 ∷ 0 ∷ 3 ∷ 0 ∷ []) ∷
+    (8 ∷ 0 ∷ 0 ∷ 4 ∷ 0 ∷ []) ∷
+    (6 ∷ 0 ∷ 0 ∷ 1 ∷ 0 ∷ []) ∷
+    (6 ∷ 0 ∷ 0 ∷ 1 ∷ 0 ∷ []) ∷
+    (2 ∷ 0 ∷ 0 ∷ 2 ∷ 0 ∷ []) ∷
+    (4 ∷ 0 ∷ 0 ∷ 3 ∷ 0 ∷ []) ∷
+    (7 ∷ 0 ∷ 0 ∷ 3 ∷ 0 ∷ []) ∷ []
 
 -- what holds of each of the five columns
 five : (P : ℕ → Type 0) → P 0 → P 1 → P 2 → P 3 → P 4 → (k : ℕ) → k < 5 → P k
@@ -62,42 +62,42 @@ five P a b c d e (suc (suc (suc (suc zero)))) h = e
 five P a b c d e (suc (suc (suc (suc (suc k))))) h =
     absurd (not-suc-le-zero (le_of_suc-le-suc (le_of_suc-le-suc (le_of_suc-le-suc (le_of_suc-le-suc (le_of_suc-le-suc h))))))
 
-abbrev Entry : Op → ℕ → Type 0
-Entry p k = (get_or counts (shape_number p * 5 + k) 0 ≡ column_at k p) × (get_or counts (shape_number p * 5 + k) 0 ≤ 8)
+abbrev Entry : Option (Shape × Operation) → ℕ → Type 0
+Entry p k = (get_or (get_or counts (shape_number p) []) k 0 ≡ column_at k p) × (get_or (get_or counts (shape_number p) []) k 0 ≤ 8)
 
 -- An entry of the table is its column's number, and is no more than 8.
-pub entry_table : (p : Op) (k : ℕ) → k < 5 → Entry p k
-entry_table Unlisted = five (Entry Unlisted) (refl, omega arith) (refl, omega arith) (refl, omega arith) (refl, omega arith) (refl, omega arith)
-entry_table (Listed Immediate o) = five (Entry (Listed Immediate o)) (refl, omega arith) (refl, omega arith) (refl, omega arith) (refl, omega arith) (refl, omega arith)
-entry_table (Listed Absolute o) = five (Entry (Listed Absolute o)) (refl, omega arith) (refl, omega arith) (refl, omega arith) (refl, omega arith) (refl, omega arith)
-entry_table (Listed Direct o) = five (Entry (Listed Direct o)) (refl, omega arith) (refl, omega arith) (refl, omega arith) (refl, omega arith) (refl, omega arith)
-entry_table (Listed StoreAbsolute o) = five (Entry (Listed StoreAbsolute o)) (refl, omega arith) (refl, omega arith) (refl, omega arith) (refl, omega arith) (refl, omega arith)
-entry_table (Listed StoreDirect o) = five (Entry (Listed StoreDirect o)) (refl, omega arith) (refl, omega arith) (refl, omega arith) (refl, omega arith) (refl, omega arith)
-entry_table (Listed Implied o) = five (Entry (Listed Implied o)) (refl, omega arith) (refl, omega arith) (refl, omega arith) (refl, omega arith) (refl, omega arith)
-entry_table (Listed Xba o) = five (Entry (Listed Xba o)) (refl, omega arith) (refl, omega arith) (refl, omega arith) (refl, omega arith) (refl, omega arith)
-entry_table (Listed Mask o) = five (Entry (Listed Mask o)) (refl, omega arith) (refl, omega arith) (refl, omega arith) (refl, omega arith) (refl, omega arith)
-entry_table (Listed Wdm o) = five (Entry (Listed Wdm o)) (refl, omega arith) (refl, omega arith) (refl, omega arith) (refl, omega arith) (refl, omega arith)
-entry_table (Listed Push o) = five (Entry (Listed Push o)) (refl, omega arith) (refl, omega arith) (refl, omega arith) (refl, omega arith) (refl, omega arith)
-entry_table (Listed Pull o) = five (Entry (Listed Pull o)) (refl, omega arith) (refl, omega arith) (refl, omega arith) (refl, omega arith) (refl, omega arith)
-entry_table (Listed PullP o) = five (Entry (Listed PullP o)) (refl, omega arith) (refl, omega arith) (refl, omega arith) (refl, omega arith) (refl, omega arith)
-entry_table (Listed PullB o) = five (Entry (Listed PullB o)) (refl, omega arith) (refl, omega arith) (refl, omega arith) (refl, omega arith) (refl, omega arith)
-entry_table (Listed PullD o) = five (Entry (Listed PullD o)) (refl, omega arith) (refl, omega arith) (refl, omega arith) (refl, omega arith) (refl, omega arith)
-entry_table (Listed Pea o) = five (Entry (Listed Pea o)) (refl, omega arith) (refl, omega arith) (refl, omega arith) (refl, omega arith) (refl, omega arith)
-entry_table (Listed Pei o) = five (Entry (Listed Pei o)) (refl, omega arith) (refl, omega arith) (refl, omega arith) (refl, omega arith) (refl, omega arith)
-entry_table (Listed Per o) = five (Entry (Listed Per o)) (refl, omega arith) (refl, omega arith) (refl, omega arith) (refl, omega arith) (refl, omega arith)
-entry_table (Listed Jump o) = five (Entry (Listed Jump o)) (refl, omega arith) (refl, omega arith) (refl, omega arith) (refl, omega arith) (refl, omega arith)
-entry_table (Listed JumpLong o) = five (Entry (Listed JumpLong o)) (refl, omega arith) (refl, omega arith) (refl, omega arith) (refl, omega arith) (refl, omega arith)
-entry_table (Listed JumpIndirect o) = five (Entry (Listed JumpIndirect o)) (refl, omega arith) (refl, omega arith) (refl, omega arith) (refl, omega arith) (refl, omega arith)
-entry_table (Listed JumpIndirectLong o) = five (Entry (Listed JumpIndirectLong o)) (refl, omega arith) (refl, omega arith) (refl, omega arith) (refl, omega arith) (refl, omega arith)
-entry_table (Listed JumpIndexed o) = five (Entry (Listed JumpIndexed o)) (refl, omega arith) (refl, omega arith) (refl, omega arith) (refl, omega arith) (refl, omega arith)
-entry_table (Listed Call o) = five (Entry (Listed Call o)) (refl, omega arith) (refl, omega arith) (refl, omega arith) (refl, omega arith) (refl, omega arith)
-entry_table (Listed CallIndexed o) = five (Entry (Listed CallIndexed o)) (refl, omega arith) (refl, omega arith) (refl, omega arith) (refl, omega arith) (refl, omega arith)
-entry_table (Listed CallLong o) = five (Entry (Listed CallLong o)) (refl, omega arith) (refl, omega arith) (refl, omega arith) (refl, omega arith) (refl, omega arith)
-entry_table (Listed Return o) = five (Entry (Listed Return o)) (refl, omega arith) (refl, omega arith) (refl, omega arith) (refl, omega arith) (refl, omega arith)
-entry_table (Listed ReturnLong o) = five (Entry (Listed ReturnLong o)) (refl, omega arith) (refl, omega arith) (refl, omega arith) (refl, omega arith) (refl, omega arith)
-entry_table (Listed Branch o) = five (Entry (Listed Branch o)) (refl, omega arith) (refl, omega arith) (refl, omega arith) (refl, omega arith) (refl, omega arith)
-entry_table (Listed BranchLong o) = five (Entry (Listed BranchLong o)) (refl, omega arith) (refl, omega arith) (refl, omega arith) (refl, omega arith) (refl, omega arith)
-entry_table (Listed Move o) = five (Entry (Listed Move o)) (refl, omega arith) (refl, omega arith) (refl, omega arith) (refl, omega arith) (refl, omega arith)
+pub entry_table : (p : Option (Shape × Operation)) (k : ℕ) → k < 5 → Entry p k
+entry_table None = five (Entry None) (refl, omega arith) (refl, omega arith) (refl, omega arith) (refl, omega arith) (refl, omega arith)
+entry_table (Some (Immediate, o)) = five (Entry (Some (Immediate, o))) (refl, omega arith) (refl, omega arith) (refl, omega arith) (refl, omega arith) (refl, omega arith)
+entry_table (Some (Absolute, o)) = five (Entry (Some (Absolute, o))) (refl, omega arith) (refl, omega arith) (refl, omega arith) (refl, omega arith) (refl, omega arith)
+entry_table (Some (Direct, o)) = five (Entry (Some (Direct, o))) (refl, omega arith) (refl, omega arith) (refl, omega arith) (refl, omega arith) (refl, omega arith)
+entry_table (Some (StoreAbsolute, o)) = five (Entry (Some (StoreAbsolute, o))) (refl, omega arith) (refl, omega arith) (refl, omega arith) (refl, omega arith) (refl, omega arith)
+entry_table (Some (StoreDirect, o)) = five (Entry (Some (StoreDirect, o))) (refl, omega arith) (refl, omega arith) (refl, omega arith) (refl, omega arith) (refl, omega arith)
+entry_table (Some (Implied, o)) = five (Entry (Some (Implied, o))) (refl, omega arith) (refl, omega arith) (refl, omega arith) (refl, omega arith) (refl, omega arith)
+entry_table (Some (Xba, o)) = five (Entry (Some (Xba, o))) (refl, omega arith) (refl, omega arith) (refl, omega arith) (refl, omega arith) (refl, omega arith)
+entry_table (Some (Mask, o)) = five (Entry (Some (Mask, o))) (refl, omega arith) (refl, omega arith) (refl, omega arith) (refl, omega arith) (refl, omega arith)
+entry_table (Some (Wdm, o)) = five (Entry (Some (Wdm, o))) (refl, omega arith) (refl, omega arith) (refl, omega arith) (refl, omega arith) (refl, omega arith)
+entry_table (Some (Push, o)) = five (Entry (Some (Push, o))) (refl, omega arith) (refl, omega arith) (refl, omega arith) (refl, omega arith) (refl, omega arith)
+entry_table (Some (Pull, o)) = five (Entry (Some (Pull, o))) (refl, omega arith) (refl, omega arith) (refl, omega arith) (refl, omega arith) (refl, omega arith)
+entry_table (Some (PullP, o)) = five (Entry (Some (PullP, o))) (refl, omega arith) (refl, omega arith) (refl, omega arith) (refl, omega arith) (refl, omega arith)
+entry_table (Some (PullB, o)) = five (Entry (Some (PullB, o))) (refl, omega arith) (refl, omega arith) (refl, omega arith) (refl, omega arith) (refl, omega arith)
+entry_table (Some (PullD, o)) = five (Entry (Some (PullD, o))) (refl, omega arith) (refl, omega arith) (refl, omega arith) (refl, omega arith) (refl, omega arith)
+entry_table (Some (Pea, o)) = five (Entry (Some (Pea, o))) (refl, omega arith) (refl, omega arith) (refl, omega arith) (refl, omega arith) (refl, omega arith)
+entry_table (Some (Pei, o)) = five (Entry (Some (Pei, o))) (refl, omega arith) (refl, omega arith) (refl, omega arith) (refl, omega arith) (refl, omega arith)
+entry_table (Some (Per, o)) = five (Entry (Some (Per, o))) (refl, omega arith) (refl, omega arith) (refl, omega arith) (refl, omega arith) (refl, omega arith)
+entry_table (Some (Jump, o)) = five (Entry (Some (Jump, o))) (refl, omega arith) (refl, omega arith) (refl, omega arith) (refl, omega arith) (refl, omega arith)
+entry_table (Some (JumpLong, o)) = five (Entry (Some (JumpLong, o))) (refl, omega arith) (refl, omega arith) (refl, omega arith) (refl, omega arith) (refl, omega arith)
+entry_table (Some (JumpIndirect, o)) = five (Entry (Some (JumpIndirect, o))) (refl, omega arith) (refl, omega arith) (refl, omega arith) (refl, omega arith) (refl, omega arith)
+entry_table (Some (JumpIndirectLong, o)) = five (Entry (Some (JumpIndirectLong, o))) (refl, omega arith) (refl, omega arith) (refl, omega arith) (refl, omega arith) (refl, omega arith)
+entry_table (Some (JumpIndexed, o)) = five (Entry (Some (JumpIndexed, o))) (refl, omega arith) (refl, omega arith) (refl, omega arith) (refl, omega arith) (refl, omega arith)
+entry_table (Some (Call, o)) = five (Entry (Some (Call, o))) (refl, omega arith) (refl, omega arith) (refl, omega arith) (refl, omega arith) (refl, omega arith)
+entry_table (Some (CallIndexed, o)) = five (Entry (Some (CallIndexed, o))) (refl, omega arith) (refl, omega arith) (refl, omega arith) (refl, omega arith) (refl, omega arith)
+entry_table (Some (CallLong, o)) = five (Entry (Some (CallLong, o))) (refl, omega arith) (refl, omega arith) (refl, omega arith) (refl, omega arith) (refl, omega arith)
+entry_table (Some (Return, o)) = five (Entry (Some (Return, o))) (refl, omega arith) (refl, omega arith) (refl, omega arith) (refl, omega arith) (refl, omega arith)
+entry_table (Some (ReturnLong, o)) = five (Entry (Some (ReturnLong, o))) (refl, omega arith) (refl, omega arith) (refl, omega arith) (refl, omega arith) (refl, omega arith)
+entry_table (Some (Branch, o)) = five (Entry (Some (Branch, o))) (refl, omega arith) (refl, omega arith) (refl, omega arith) (refl, omega arith) (refl, omega arith)
+entry_table (Some (BranchLong, o)) = five (Entry (Some (BranchLong, o))) (refl, omega arith) (refl, omega arith) (refl, omega arith) (refl, omega arith) (refl, omega arith)
+entry_table (Some (Move, o)) = five (Entry (Some (Move, o))) (refl, omega arith) (refl, omega arith) (refl, omega arith) (refl, omega arith) (refl, omega arith)
 
 nothing : (t : Bool) → ◌≡◌ {A = ℕ} (pick t 0 0) 0
 nothing true = refl
@@ -183,11 +183,11 @@ lengths_table BranchLong w = rw (nothing w)
 lengths_table Move w = rw (nothing w)
 
 -- So for each byte.
-pub count_law : (p : Op) (f : Flags) (d : ℕ)
+pub count_law : (p : Option (Shape × Operation)) (f : Flags) (d : ℕ)
     → column_at 0 p + pick (wide_at p f) (column_at 1 p) 0 + pick (unaligned d) (column_at 2 p) 0 ≡ count_at p f d
-count_law Unlisted f d = rw (nothing (unaligned d))
-count_law (Listed s o) f d = counts_table s (wide_of o f.memsel f.indexsel) (unaligned d) f.emulation
+count_law None f d = rw (nothing (unaligned d))
+count_law (Some (s, o)) f d = counts_table s (wide_of o f.memsel f.indexsel) (unaligned d) f.emulation
 
-pub length_law : (p : Op) (f : Flags) → column_at 3 p + pick (wide_at p f) (column_at 4 p) 0 ≡ length_at p f
-length_law Unlisted f = refl
-length_law (Listed s o) f = lengths_table s (wide_of o f.memsel f.indexsel)
+pub length_law : (p : Option (Shape × Operation)) (f : Flags) → column_at 3 p + pick (wide_at p f) (column_at 4 p) 0 ≡ length_at p f
+length_law None f = refl
+length_law (Some (s, o)) f = lengths_table s (wide_of o f.memsel f.indexsel)

@@ -9,8 +9,10 @@ use native.Mathlib.Nat.{add-zero, zero-add}
 use native.Mathlib.Numerals.{add-one}
 use borrow.Author.Tests.{le-leb, lt-leb, leb-true}
 use lib.Dec.{leb}
-use lib.ListN.{length, set, take, drop, get_or, length-append}
-use lib.Seq.{sets, sets-eq, length-sets, take-suc, take-length, take-append_seam}
+use lib.ListN.{length, set, take, drop, length-append}
+use borrow.Rule.Slice.PartMut.{put_mid}
+use Rattle.std.proofs.lemmas.List.{drop-drop}
+use lib.Seq.{sets, sets-eq, length-sets, take-append_seam}
 use Rattle.words.specs.Words.{pick}
 use Rattle.cpu.specs.declared.types.Request.{Request}
 use Rattle.trace.specs.Text.{decimal, hex2, hex6, line_text, lines_text, header, over, Put, Wrote}
@@ -74,17 +76,15 @@ wrote_none t i = record { place = omega arith; text = refl }
 pub wrote_one : (t : List ℕ) (i b : ℕ) → Wrote t (set t i b) i (i + 1) (b ∷ [])
 wrote_one t i b = record { place = refl; text = refl }
 
--- the first bytes of s, and then the next
-pub wrote_next : (t t₁ s : List ℕ) (at i : ℕ) → i < length s
-    → Wrote t t₁ at (at + i) (take i s) → Wrote t (set t₁ (at + i) (get_or s i 0)) at (at + (i + 1)) (take (i + 1) s)
-wrote_next t t₁ s at i h w =
-    let e : at + (i + 1) ≡ (at + i) + 1 = omega arith in
-    rw (e, add-one i, take-suc s i 0 h) (then w (wrote_one t₁ (at + i) (get_or s i 0)))
-
-pub wrote_all : (t t₁ s : List ℕ) (at i : ℕ) → i ≡ length s → Wrote t t₁ at (at + i) (take i s) → Wrote t t₁ at (at + i) s
-wrote_all t t₁ s at i h w =
-    let e : take i s ≡ s = rw h (take-length s) in
-    rw e at w
+-- bytes that were copied over a part of t
+pub wrote_part : (t s : List ℕ) (at : ℕ) (x : List ℕ) → x ≡ s → at + length s ≤ length t
+    → Wrote t (put_mid at (at + length s - at) t x) at (at + length s) s
+wrote_part t s at x e h =
+    let n : at + length s - at ≡ length s = omega arith in
+    record {
+      place = refl;
+      text = rw (e, n, drop-drop (length s) at t, sets-eq s t at h) (sym (append_assoc (take at t) s _));
+    }
 
 -- what was written at the front is what stands there
 pub wrote_front : {t t' x : List ℕ} {j : ℕ} → Wrote t t' 0 j x → length x ≤ length t → take j t' ≡ x

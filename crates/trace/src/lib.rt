@@ -24,12 +24,9 @@ fn put_bytes(text: &mut [u8], at: usize, src: &[u8]) -> usize
     if !has_room(text.len(), at, src.len()) {
         return at;
     }
-    let mut i = 0;
-    while i < src.len() {
-        text[at + i] = src[i];
-        i += 1;
-    }
-    at + i
+    let end = at + src.len();
+    text[at..end].copy_from_slice(src);
+    end
 }
 
 // The header of a trace at a place of the text, and the place after it; without room the text stays, and the place is `at`.
@@ -157,10 +154,8 @@ fn put_decimal(text: &mut [u8], at: usize, n: u32) -> usize
     requires { at + length (decimal n) ≤ length text.old }
     ensures { Wrote text.old text.new at result (decimal n) }
 {
-    if 1000 <= n {
-        if n < 1000000 {
-            return put_scaled(text, at, n);
-        }
+    if matches!(n, 1000..=999999) {
+        return put_scaled(text, at, n);
     }
     let p = put_upper(text, at, n);
     put_lower(text, p, n)
@@ -197,6 +192,7 @@ fn put_marks(text: &mut [u8], at: usize, kind: u8, dir: u8) -> usize
 }
 
 // By a match, which becomes a table: a test for each of a line's eight digits costs more.
+#[tactic(auto, unfolding(crate::specs::Text::hex_digit))]
 fn hex_digit(n: u8) -> u8
     requires { n < 16 }
     ensures { result ≡ hex_digit n }
@@ -219,6 +215,31 @@ fn hex_digit(n: u8) -> u8
         14 => b'E',
         _ => b'F',
     }
+}
+
+// The upper-case hex digit of a number's lowest four bits.
+pub fn digit(n: u8) -> u8
+    ensures { result ≡ hex_digit (n % 16) }
+{
+    hex_digit(n % 16)
+}
+
+// The two hex digits of a byte, the high one first.
+#[tactic(auto, unfolding(crate::specs::Text::hex2))]
+pub fn two_digits(byte: u8) -> [u8; 2]
+    ensures { result ≡ hex2 byte }
+{
+    [hex_digit(byte / 16), hex_digit(byte % 16)]
+}
+
+// The four of a word.
+#[tactic(auto, unfolding(crate::specs::Text::hex2))]
+pub fn four_digits(word: u16) -> [u8; 4]
+    ensures { result ≡ hex2 (word / 256) ++ hex2 (word % 256) }
+{
+    let [a, b] = two_digits((word / 256) as u8);
+    let [c, d] = two_digits((word % 256) as u8);
+    [a, b, c, d]
 }
 
 // Two hex digits of a byte in a word, the first one low.
@@ -249,17 +270,15 @@ fn put_hex6(text: &mut [u8], at: usize, addr: u32) -> usize
 }
 
 // The byte, after its tab, and the line's end.
+#[tactic(auto, unfolding(crate::specs::Text::hex2))]
 fn put_end(text: &mut [u8], at: usize, byte: u8) -> usize
     requires { at + 4 ≤ length text.old }
     ensures { Wrote text.old text.new at result ((9 ∷ []) ++ (hex2 byte ++ (10 ∷ []))) }
 {
-    let high = hex_digit(byte / 16);
-    let low = hex_digit(byte % 16);
     text[at] = b'\t';
-    text[at + 1] = high;
-    text[at + 2] = low;
-    text[at + 3] = b'\n';
-    at + 4
+    let end = put_hex2(text, at + 1, byte);
+    text[end] = b'\n';
+    end + 1
 }
 
 // A line that has room.
@@ -267,10 +286,12 @@ fn write_line(text: &mut [u8], at: usize, n: u32, line: Request) -> usize
     requires { at + length (line_text n line) ≤ length text.old }
     ensures { Wrote text.old text.new at result (line_text n line) }
 {
-    let kind = line.kind;
-    let write = line.write;
-    let addr = line.addr;
-    let byte = line.byte;
+    let Request {
+        write,
+        kind,
+        addr,
+        byte,
+    } = line;
     let marks = put_decimal(text, at, n);
     let place = put_marks(text, marks, letter_of(kind), direction_of(write));
     let tab = put_hex6(text, place, addr);

@@ -1,5 +1,6 @@
 -- Whoever lends a packed record gets the core's own answers; what is refused before any cycle leaves every lent byte as it was.
 use Prim.Native.Nat.{ℕ, ◌+◌, ◌≤◌, ◌<◌}
+use Rattle.std.proofs.Common.{Option, Some, None}
 use mathlib.Core.Path.{◌≡◌, refl, sym, ◌∙◌}
 use mathlib.Core.Bool.{false}
 use mathlib.Core.List.{List}
@@ -10,8 +11,6 @@ use Rattle.run.specs.Runs.{size, most}
 use Rattle.traced.specs.Traces.{whole_piece, room_of}
 use Rattle.traced.proofs.Laws as of-traced
 use Rattle.packed.specs.Packed.{pack, unpacked, is_packed}
-use Rattle.packed.specs.declared.types.Unpacked.{Unpacked}
-use Rattle.packed.specs.declared.types.Unpacked.TheVariants.{Good, Bad}
 use Rattle.packed.proofs.RoundTrip.{found_again}
 use Rattle.numbers.proofs.Bytes.{Bytes, same_bytes, unfound}
 use Rattle.trace_port.specs.Port.{Spelt, trace_number, spelt_to, trace_bytes}
@@ -24,20 +23,20 @@ abbrev pub still_text : ℕ → (b m t : List ℕ) → Spelt
 still_text k b m t = record { answer = trace_number k 0 0; bytes = b; mem = m; text = t }
 
 module _ (b m t : List ℕ) (before n : ℕ) (h : Bytes b) where
-  text_by_1 : (u : Unpacked) → u ≡ unpacked b → (length m ≡ size → ⊥) → trace_bytes b m t before n ≡ still_text 1 b m t
-  text_by_1 (Good r) e k = trace_good b m t before n (Good r) e r refl ∙ rw (of-traced.refused_1 before n r m t k, same_bytes b r h (sym e))
-  text_by_1 Bad e k = trace_bad b m t before n Bad e refl ∙ rw (text_1 (length m) (length t) before n k)
+  text_by_1 : (u : Option Record) → u ≡ unpacked b → (length m ≡ size → ⊥) → trace_bytes b m t before n ≡ still_text 1 b m t
+  text_by_1 (Some r) e k = trace_good b m t before n (Some r) e r refl ∙ rw (of-traced.refused_1 before n r m t k, same_bytes b r h (sym e))
+  text_by_1 None e k = trace_bad b m t before n None e refl ∙ rw (text_1 (length m) (length t) before n k)
 
-  text_by_2 : (u : Unpacked) → u ≡ unpacked b → length m ≡ size → most < before + n → trace_bytes b m t before n ≡ still_text 2 b m t
-  text_by_2 (Good r) e k l =
-      trace_good b m t before n (Good r) e r refl ∙ rw (of-traced.refused_2 before n r m t k (lt-leb (before + n) most l), same_bytes b r h (sym e))
-  text_by_2 Bad e k l = trace_bad b m t before n Bad e refl ∙ rw (text_2 (length m) (length t) before n k l)
+  text_by_2 : (u : Option Record) → u ≡ unpacked b → length m ≡ size → most < before + n → trace_bytes b m t before n ≡ still_text 2 b m t
+  text_by_2 (Some r) e k l =
+      trace_good b m t before n (Some r) e r refl ∙ rw (of-traced.refused_2 before n r m t k (lt-leb (before + n) most l), same_bytes b r h (sym e))
+  text_by_2 None e k l = trace_bad b m t before n None e refl ∙ rw (text_2 (length m) (length t) before n k l)
 
-  text_by_3 : (u : Unpacked) → u ≡ unpacked b → length m ≡ size → before + n ≤ most → length t < room_of before n
+  text_by_3 : (u : Option Record) → u ≡ unpacked b → length m ≡ size → before + n ≤ most → length t < room_of before n
       → trace_bytes b m t before n ≡ still_text 3 b m t
-  text_by_3 (Good r) e k l o =
-      trace_good b m t before n (Good r) e r refl ∙ rw (of-traced.refused_3 before n r m t k (le-leb (before + n) most l) o, same_bytes b r h (sym e))
-  text_by_3 Bad e k l o = trace_bad b m t before n Bad e refl ∙ rw (text_3 (length m) (length t) before n k l o)
+  text_by_3 (Some r) e k l o =
+      trace_good b m t before n (Some r) e r refl ∙ rw (of-traced.refused_3 before n r m t k (le-leb (before + n) most l) o, same_bytes b r h (sym e))
+  text_by_3 None e k l o = trace_bad b m t before n None e refl ∙ rw (text_3 (length m) (length t) before n k l o)
 
   pub trace_1 : (length m ≡ size → ⊥) → trace_bytes b m t before n ≡ still_text 1 b m t
   trace_1 k = text_by_1 (unpacked b) refl k

@@ -1,5 +1,7 @@
 -- Document 01's trace, from the machine's start to the last byte of text.
 use Prim.Native.Nat.{ℕ, ◌≤◌}
+use Rattle.cpu.specs.declared.types.Refusal.TheVariants.{Room, Budget}
+use Rattle.std.proofs.Common.{Ok, None}
 use mathlib.Core.Path.{◌≡◌, refl, sym, subst}
 use mathlib.Core.Bool.{true, false}
 use mathlib.Core.List.{List, [], ◌∷◌, ◌++◌}
@@ -17,7 +19,6 @@ use Rattle.cpu.specs.declared.types.Request.{Request}
 use Rattle.opcodes.specs.Opcodes.{one_bytes, opcodes, decode_of}
 use Rattle.step.specs.Cycle.{micro_of}
 use Rattle.memory.specs.Turns.{cycle_of}
-use Rattle.memory.specs.declared.types.Turn.TheVariants.{Done}
 use Rattle.sheet.specs.FigureForm.{native8, ◌is◌, A, PC}
 use Rattle.trace.specs.Text.{digits_of, decimal, hex_digit, hex2, hex6, line_text, lines_text}
 use Rattle.run.specs.Runs.{End, ends, more, run_of, size}
@@ -56,19 +57,19 @@ holding ir r = record {
 }
 
 module _ (m : List ℕ) (h : Program01 m) where
-  cycle_1 : cycle_of (native8 []) m ≡ Done (read Opcode 0x8000 0x18) (holding 0x18 (native8 (PC is 0x8001 ∷ [])))
+  cycle_1 : cycle_of (native8 []) m ≡ Ok (read Opcode 0x8000 0x18, holding 0x18 (native8 (PC is 0x8001 ∷ [])))
   unfolding cycle_of micro_of decode_of opcodes one_bytes well_formed inc at
   cycle_1 = simp (h.bank, h.at0)
 
-  cycle_2 : cycle_of (holding 0x18 (native8 (PC is 0x8001 ∷ []))) m ≡ Done (read Invalid 0x8001 0x69) (native8 (PC is 0x8001 ∷ []))
+  cycle_2 : cycle_of (holding 0x18 (native8 (PC is 0x8001 ∷ []))) m ≡ Ok (read Invalid 0x8001 0x69, native8 (PC is 0x8001 ∷ []))
   unfolding cycle_of micro_of decode_of opcodes one_bytes well_formed ended operates index page_one inc at
   cycle_2 = simp (h.bank, h.at1)
 
-  cycle_3 : cycle_of (native8 (PC is 0x8001 ∷ [])) m ≡ Done (read Opcode 0x8001 0x69) (holding 0x69 (native8 (PC is 0x8002 ∷ [])))
+  cycle_3 : cycle_of (native8 (PC is 0x8001 ∷ [])) m ≡ Ok (read Opcode 0x8001 0x69, holding 0x69 (native8 (PC is 0x8002 ∷ [])))
   unfolding cycle_of micro_of decode_of opcodes one_bytes well_formed inc at
   cycle_3 = simp (h.bank, h.at1)
 
-  cycle_4 : cycle_of (holding 0x69 (native8 (PC is 0x8002 ∷ []))) m ≡ Done (read Program 0x8002 0x01) (native8 (PC is 0x8003 ∷ A is 1 ∷ []))
+  cycle_4 : cycle_of (holding 0x69 (native8 (PC is 0x8002 ∷ []))) m ≡ Ok (read Program 0x8002 0x01, native8 (PC is 0x8003 ∷ A is 1 ∷ []))
   unfolding cycle_of micro_of decode_of opcodes one_bytes well_formed ended operates nz summed adc_byte adc_binary adc_of word low_set index page_one inc at
   cycle_4 = simp (h.bank, h.at2)
 
@@ -77,7 +78,7 @@ module _ (m : List ℕ) (h : Program01 m) where
       ≡
       more (read Opcode 0x8000 0x18)
       (more (read Invalid 0x8001 0x69)
-      (more (read Opcode 0x8001 0x69) (more (read Program 0x8002 0x01) (ends 0 (native8 (PC is 0x8003 ∷ A is 1 ∷ [])) m))))
+      (more (read Opcode 0x8001 0x69) (more (read Program 0x8002 0x01) (ends None (native8 (PC is 0x8003 ∷ A is 1 ∷ [])) m))))
   four_cycles =
       rw (run_done 3 _ _ m _ cycle_1, run_done 2 _ _ m _ cycle_2, run_done 1 _ _ m _ cycle_3, run_done 0 _ _ m _ cycle_4, run_none)
 
@@ -94,12 +95,12 @@ text01 =
 -- PC 8000, 8-bit, CLC then ADC #01, budget 4, and room for 94 bytes: no refusal, 4 cycles, 70 bytes of text, A 01, PC 8003; the memory and the
 -- rest of the text buffer stay
 pub trace_figure : (m t : List ℕ) → Program01 m → 94 ≤ length t
-    → Tells (whole_piece 0 4 (native8 []) m t) (traced_as 0 4 70 (native8 (PC is 0x8003 ∷ A is 1 ∷ []))) m (text01 ++ drop 70 t)
+    → Tells (whole_piece 0 4 (native8 []) m t) (traced_as None 4 70 (native8 (PC is 0x8003 ∷ A is 1 ∷ []))) m (text01 ++ drop 70 t)
 unfolding head piece_text digits_of decimal hex_digit hex2 hex6 line_text lines_text
 trace_figure m t h k =
     rw (accepted 0 4 (native8 []) m t h.bank refl k)
     (subst
-    (λ (e : End). Tells (text_of 0 e t) (traced_as 0 4 70 (native8 (PC is 0x8003 ∷ A is 1 ∷ []))) m (text01 ++ drop 70 t))
+    (λ (e : End). Tells (text_of 0 e t) (traced_as None 4 70 (native8 (PC is 0x8003 ∷ A is 1 ∷ []))) m (text01 ++ drop 70 t))
     (sym (four_cycles m h))
     (record { answer = refl; mem = refl; text = refl }))
 
@@ -109,12 +110,12 @@ unfolding head
 room_figure = (refl, refl)
 
 -- whatever the record: 93 bytes are refused with 3; a budget of 1,000,001 with 2, and a million less so many as were done is the most
-pub short_figure : (r : Record) (m t : List ℕ) → length m ≡ size → length t ≡ 93 → whole_piece 0 4 r m t ≡ untouched 3 r m t
+pub short_figure : (r : Record) (m t : List ℕ) → length m ≡ size → length t ≡ 93 → whole_piece 0 4 r m t ≡ untouched Room r m t
 unfolding head
 short_figure r m t h k = refused_3 0 4 r m t h refl (omega (arith, k))
 
 pub budget_figure : (r : Record) (m t : List ℕ) → length m ≡ size
-    → (whole_piece 0 1000001 r m t ≡ untouched 2 r m t) × (whole_piece 999999 2 r m t ≡ untouched 2 r m t)
+    → (whole_piece 0 1000001 r m t ≡ untouched Budget r m t) × (whole_piece 999999 2 r m t ≡ untouched Budget r m t)
 budget_figure r m t h = (refused_2 0 1000001 r m t h refl, refused_2 999999 2 r m t h refl)
 
 pub most_figure : (r : Record) (m t : List ℕ) → length m ≡ size → 22 ≤ length t → whole_piece 999999 1 r m t ≡ piece_of 999999 1 r m t

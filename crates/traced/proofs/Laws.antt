@@ -1,5 +1,6 @@
 -- How a trail after a header meets the definition of a traced piece.
 use Prim.Native.Nat.{ℕ, zero, suc, ◌+◌, ◌≤◌, ◌<◌}
+use Rattle.std.proofs.Common.{Err, None, Some}
 use mathlib.Core.Path.{◌≡◌, refl, ◌∙◌, ap}
 use mathlib.Core.Bool.{true, false}
 use mathlib.Core.List.{List, [], ◌++◌}
@@ -10,13 +11,12 @@ use lib.Dec.{leb, eqb}
 use lib.ListN.{length, length-append}
 use lib.Seq.{sets-eq}
 use Rattle.words.specs.Words.{pick}
-use Rattle.cpu.specs.Record.{well_formed, number_of}
+use Rattle.cpu.specs.Record.{well_formed}
 use Rattle.cpu.specs.declared.types.Record.{Record}
 use Rattle.cpu.specs.declared.types.Request.{Request}
-use Rattle.cpu.specs.declared.types.Refusal.TheVariants.{Malformed}
+use Rattle.cpu.specs.declared.types.Refusal.TheVariants.{Malformed, Memory, Budget, Room}
 use Rattle.step.specs.Cycle.{micro_of}
 use Rattle.memory.specs.Turns.{cycle_of}
-use Rattle.memory.specs.declared.types.Turn.TheVariants.{Stop}
 use Rattle.trace.specs.Text.{lines_text, header, Wrote}
 use Rattle.trace.proofs.Laws.{then, lines_short}
 use Rattle.run.specs.Runs.{End, ends, run_of, size, most}
@@ -28,17 +28,17 @@ use Rattle.traced.specs.Traces.{head, piece_text, room_of, untouched, text_of, p
 
 -- ---- a record that isn't well formed
 
-stopped_4 : (r : Record) (m : List ℕ) → well_formed r ≡ false → cycle_of r m ≡ Stop Malformed
+stopped_4 : (r : Record) (m : List ℕ) → well_formed r ≡ false → cycle_of r m ≡ Err Malformed
 unfolding cycle_of micro_of
 stopped_4 r m w = rw w
 
-unfit_run : (b : ℕ) (r : Record) (m : List ℕ) → well_formed r ≡ false → run_of b r m ≡ ends (pick (eqb b 0) 0 (number_of Malformed)) r m
+unfit_run : (b : ℕ) (r : Record) (m : List ℕ) → well_formed r ≡ false → run_of b r m ≡ ends (pick (eqb b 0) None (Some Malformed)) r m
 unfit_run zero r m w = run_none r m
 unfit_run (suc n) r m w = rw (ne_eqb (suc n) 0 (suc-ne-zero n)) (run_stop n r m Malformed (stopped_4 r m w))
 
 -- as a trail would tell it
 abbrev pub unfit_at : (p b : ℕ) → Record → Told
-unfit_at p b r = told_as (pick (eqb b 0) 0 (number_of Malformed)) 0 p r
+unfit_at p b r = told_as (pick (eqb b 0) None (Some Malformed)) 0 p r
 
 pub unfit_listed : (b n p : ℕ) (r : Record) (m t : List ℕ) → well_formed r ≡ false → Listed (run_of b r m) n p t (unfit_at p b r) m t
 unfolding lines_text
@@ -81,15 +81,15 @@ head_later before h = rw (ne_eqb before 0 h)
 -- ---- the refusals that come first
 
 module _ (before b : ℕ) (r : Record) (m t : List ℕ) where
-  pub refused_1 : (length m ≡ size → ⊥) → whole_piece before b r m t ≡ untouched 1 r m t
+  pub refused_1 : (length m ≡ size → ⊥) → whole_piece before b r m t ≡ untouched Memory r m t
   unfolding whole_piece
   refused_1 h = simp (ne_eqb _ _ h)
 
-  pub refused_2 : length m ≡ size → leb (before + b) most ≡ false → whole_piece before b r m t ≡ untouched 2 r m t
+  pub refused_2 : length m ≡ size → leb (before + b) most ≡ false → whole_piece before b r m t ≡ untouched Budget r m t
   unfolding whole_piece
   refused_2 h k = simp (eq-eqb _ _ h, k)
 
-  pub refused_3 : length m ≡ size → leb (before + b) most ≡ true → length t < room_of before b → whole_piece before b r m t ≡ untouched 3 r m t
+  pub refused_3 : length m ≡ size → leb (before + b) most ≡ true → length t < room_of before b → whole_piece before b r m t ≡ untouched Room r m t
   unfolding whole_piece
   refused_3 h k l = simp (eq-eqb _ _ h, k, lt-leb _ _ l)
 

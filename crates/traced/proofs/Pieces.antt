@@ -1,5 +1,7 @@
 -- What a traced piece has to do with a run, how much it writes, and that pieces in a row make one.
 use Prim.Native.Nat.{ℕ, ◌+◌, ◌≤◌, ◌<◌}
+use Rattle.std.proofs.Common.{Some, None}
+use Rattle.cpu.specs.declared.types.Refusal.TheVariants.{Memory, Room, Budget}
 use mathlib.Core.Path.{◌≡◌, refl, sym, ◌∙◌, ap}
 use mathlib.Core.Bool.{Bool, true, false}
 use mathlib.Core.List.{List, [], ◌++◌, append_assoc}
@@ -14,6 +16,7 @@ use Rattle.cpu.specs.declared.types.Record.{Record}
 use Rattle.cpu.specs.declared.types.Request.{Request}
 use Rattle.trace.specs.Text.{lines_text}
 use Rattle.trace.proofs.Laws.{lines_append}
+use Rattle.run.proofs.Counted.{refusal_some}
 use Rattle.run.specs.Runs.{End, ends, joined, run_of, whole_run, size, most}
 use Rattle.run.proofs.TwoRuns.{cut}
 use Rattle.traced.specs.Traces.{head, piece_text, room_of, Written, untouched, text_of, piece_of, whole_piece}
@@ -22,7 +25,7 @@ use Rattle.traced.proofs.Laws.{piece_short, head_later, accepted}
 
 -- ---- a traced run is the run
 
-ends_alike_lem : (x y : Bool) (e : End) (r : Record) (m t : List ℕ) → (pick x (pick y (text_of 0 e t) (untouched 2 r m t)) (untouched 1 r m t)).end ≡ pick x (pick y e (ends 2 r m)) (ends 1 r m)
+ends_alike_lem : (x y : Bool) (e : End) (r : Record) (m t : List ℕ) → (pick x (pick y (text_of 0 e t) (untouched Budget r m t)) (untouched Memory r m t)).end ≡ pick x (pick y e (ends (Some Budget) r m)) (ends (Some Memory) r m)
 ends_alike_lem true true e r m t = refl
 ends_alike_lem true false e r m t = refl
 ends_alike_lem false y e r m t = refl
@@ -35,7 +38,7 @@ same_run b r m t h = rw (le-leb _ _ h, zero-add b) (ends_alike_lem (eqb (length 
 -- ---- the room is enough
 
 enough : (x y z : Bool) (before b : ℕ) (r : Record) (m t : List ℕ) → leb (before + b) most ≡ y
-    → (pick x (pick y (pick z (piece_of before b r m t) (untouched 3 r m t)) (untouched 2 r m t)) (untouched 1 r m t)).written ≤ room_of before b
+    → (pick x (pick y (pick z (piece_of before b r m t) (untouched Room r m t)) (untouched Budget r m t)) (untouched Memory r m t)).written ≤ room_of before b
 enough true true true before b r m t h = piece_short before b r m (leb-true _ _ h)
 enough true true false before b r m t h = omega arith
 enough true false z before b r m t h = omega arith
@@ -55,14 +58,14 @@ pub record Good (before b : ℕ) (m t : List ℕ) : Type 0 where
   pub room : room_of before b ≤ length t
 
 good : (x y z : Bool) (before b : ℕ) (r : Record) (m t : List ℕ) → eqb (length m) size ≡ x → leb (before + b) most ≡ y → leb (room_of before b) (length t) ≡ z
-    → (pick x (pick y (pick z (piece_of before b r m t) (untouched 3 r m t)) (untouched 2 r m t)) (untouched 1 r m t)).end.number ≡ 0 → Good before b m t
+    → (pick x (pick y (pick z (piece_of before b r m t) (untouched Room r m t)) (untouched Budget r m t)) (untouched Memory r m t)).end.refusal ≡ None → Good before b m t
 good true true true before b r m t e f g h = record { memory = eqb-true _ _ e; budget = leb-true _ _ f; room = leb-true _ _ g }
-good true true false before b r m t e f g h = absurd (omega (arith, h))
-good true false z before b r m t e f g h = absurd (omega (arith, h))
-good false y z before b r m t e f g h = absurd (omega (arith, h))
+good true true false before b r m t e f g h = absurd (refusal_some Room h)
+good true false z before b r m t e f g h = absurd (refusal_some Budget h)
+good false y z before b r m t e f g h = absurd (refusal_some Memory h)
 
--- a piece whose number is 0 had all three
-pub not_refused : (before b : ℕ) (r : Record) (m t : List ℕ) → (whole_piece before b r m t).end.number ≡ 0 → Good before b m t
+-- a piece that isn't refused had all three
+pub not_refused : (before b : ℕ) (r : Record) (m t : List ℕ) → (whole_piece before b r m t).end.refusal ≡ None → Good before b m t
 unfolding whole_piece
 not_refused before b r m t h = good (eqb (length m) size) (leb (before + b) most) (leb (room_of before b) (length t)) before b r m t refl refl refl h
 
@@ -79,7 +82,7 @@ text_joined before a b h =
 
 -- the text of j cycles, not refused, and then of n is the text of j + n. With before 0 and j 0 the first piece would be the header alone and the
 -- second would write it again: that is why 0 < before + j.
-pub texts_joined : (before j n : ℕ) (r : Record) (m : List ℕ) → (run_of j r m).number ≡ 0 → 0 < before + j
+pub texts_joined : (before j n : ℕ) (r : Record) (m : List ℕ) → (run_of j r m).refusal ≡ None → 0 < before + j
     → piece_text before (run_of j r m).lines ++ piece_text (before + j) (run_of n (run_of j r m).rec (run_of j r m).mem).lines ≡ piece_text before (run_of (j + n) r m).lines
 texts_joined before j n r m h k =
     let e = run_all j r m h in
@@ -96,7 +99,7 @@ pub record Joined (u v w : Written) : Type 0 where
   pub written : w.written ≡ u.written + v.written
   pub text : take w.written w.text ≡ take u.written u.text ++ take v.written v.text
 
-joined_pieces : (before j n : ℕ) (r : Record) (m t₁ t₂ t : List ℕ) → (run_of j r m).number ≡ 0 → 0 < before + j
+joined_pieces : (before j n : ℕ) (r : Record) (m t₁ t₂ t : List ℕ) → (run_of j r m).refusal ≡ None → 0 < before + j
     → Joined (piece_of before j r m t₁) (piece_of (before + j) n (run_of j r m).rec (run_of j r m).mem t₂) (piece_of before (j + n) r m t)
 joined_pieces before j n r m t₁ t₂ t h k =
     let a = piece_text before (run_of j r m).lines in
@@ -112,7 +115,7 @@ joined_pieces before j n r m t₁ t₂ t h k =
 -- A piece of j cycles that ends with number 0, and one of n that goes on where it ended, are one piece of j + n; each in a buffer of its own
 -- that has room. The second may end by a refusal of a cycle, 4 to 7: so does the one. Why 0 < before + j is said above.
 pub pieces_joined : (before j n : ℕ) (r : Record) (m t₁ t₂ t : List ℕ)
-    → (whole_piece before j r m t₁).end.number ≡ 0
+    → (whole_piece before j r m t₁).end.refusal ≡ None
     → 0 < before + j
     → before + j + n ≤ most
     → room_of (before + j) n ≤ length t₂

@@ -1,10 +1,10 @@
 -- A traced run: the run, and the text of its lines at the front of a lent buffer. It may be made in pieces: a piece comes after `before`
 -- cycles, and numbers its lines on from there.
-use Rattle.std.specs.Prelude.{ℕ, ◌+◌, ◌*◌, ◌≡◌, List, [], ◌++◌, leb, eqb, length}
+use Rattle.std.specs.Prelude.{ℕ, ◌+◌, ◌*◌, ◌≡◌, List, [], ◌++◌, Option, Some, None, leb, eqb, length}
 use Rattle.words.specs.Words.{pick}
-use Rattle.cpu.specs.Record.{number_of}
 use Rattle.cpu.specs.declared.types.Record.{Record}
 use Rattle.cpu.specs.declared.types.Request.{Request}
+use Rattle.cpu.specs.declared.types.Refusal.{Refusal}
 use Rattle.cpu.specs.declared.types.Refusal.TheVariants.{Memory, Budget, Room, Malformed}
 use Rattle.trace.specs.Text.{lines_text, header, over}
 use Rattle.run.specs.Runs.{End, ends, run_of, size, most}
@@ -32,9 +32,9 @@ pub record Written : Type 0 where
   pub text : List ℕ
   pub written : ℕ
 
--- refused by number n before anything was done
-abbrev pub untouched : ℕ → Record → (m t : List ℕ) → Written
-untouched n r m t = record { end = ends n r m; text = t; written = 0 }
+-- refused before anything was done
+abbrev pub untouched : Refusal → Record → (m t : List ℕ) → Written
+untouched n r m t = record { end = ends (Some n) r m; text = t; written = 0 }
 
 -- a run's end, and its lines as a piece's text
 abbrev pub text_of : (before : ℕ) → End → (t : List ℕ) → Written
@@ -48,17 +48,17 @@ unfoldable pub whole_piece : (before b : ℕ) → Record → (m t : List ℕ) �
 whole_piece before b r m t =
     pick (eqb (length m) size)
     (pick (leb (before + b) most)
-    (pick (leb (room_of before b) (length t)) (piece_of before b r m t) (untouched (number_of Room) r m t))
-    (untouched (number_of Budget) r m t))
-    (untouched (number_of Memory) r m t)
+    (pick (leb (room_of before b) (length t)) (piece_of before b r m t) (untouched Room r m t))
+    (untouched Budget r m t))
+    (untouched Memory r m t)
 
 -- ---- what is answered
 
-abbrev pub traced_as : (refusal cycles written : ℕ) → Record → Traced
+abbrev pub traced_as : (refusal : Option Refusal) (cycles written : ℕ) → Record → Traced
 traced_as n c w r = record { refusal = n; cycles = c; written = w; after = r }
 
 abbrev pub traced_by : Written → Traced
-traced_by w = traced_as w.end.number (length w.end.lines) w.written w.end.rec
+traced_by w = traced_as w.end.refusal (length w.end.lines) w.written w.end.rec
 
 -- an answer, a memory and a text are those of w
 pub record Tells (w : Written) (o : Traced) (m t : List ℕ) : Type 0 where
@@ -72,4 +72,4 @@ traced_from o = traced_as o.refusal o.cycles o.place o.after
 
 -- a record that isn't well formed, asked for so many cycles
 abbrev pub malformed_at : (written b : ℕ) → Record → Traced
-malformed_at w b r = traced_as (pick (eqb b 0) 0 (number_of Malformed)) 0 w r
+malformed_at w b r = traced_as (pick (eqb b 0) None (Some Malformed)) 0 w r

@@ -2,40 +2,31 @@
 // how many cycles were done before it, numbers its lines on from there, and writes the header only where none were.
 ghost use Rattle.std.specs.Prelude.{◌≡◌, ◌+◌, ◌≤◌, leb, length};
 ghost use Rattle.trace.specs.Text.{Wrote};
-ghost use Rattle.run.specs.Runs.{size, most};
+ghost use Rattle.run.specs.Runs.{most};
 ghost use Rattle.traced.specs.Traces.{head, room_of, traced_as, traced_from, malformed_at, piece_of, whole_piece, Tells};
 
 use crate::types::Traced;
 use cpu::record::well_formed;
-use cpu::types::Record;
+use cpu::types::{Record, Refusal};
+use drive::in_budget;
+use run::types::Bank;
 use trace::put_header;
 use trail::trail::trail;
 use trail::types::Told;
 
-fn ended(refusal: u8, cycles: u32, written: usize, after: Record) -> Traced
+fn ended(refusal: Option<Refusal>, cycles: u32, written: usize, after: Record) -> Traced
     ensures { result ≡ traced_as refusal cycles written after }
 {
     Traced {
-        refusal: refusal,
-        cycles: cycles,
-        written: written,
-        after: after,
+        refusal,
+        cycles,
+        written,
+        after,
     }
-}
-
-// Whether the cycles done before and the budget come to a million at most. Their sum might not fit, so it isn't made.
-fn in_budget(before: u32, budget: u32) -> bool
-    ensures { result ≡ leb (before + budget) most }
-{
-    if 1_000_000 < budget {
-        return false;
-    }
-    before <= 1_000_000 - budget
 }
 
 // The room that a piece must find: the header's, if it has one, and 22 bytes for each cycle.
-fn room(before: u32, budget: u32) -> usize
-    requires { before + budget ≤ most }
+pub fn room(before: u32, budget: u32) -> usize
     ensures { result ≡ room_of before budget }
 {
     if before == 0 {
@@ -66,20 +57,19 @@ fn unfit(rec: Record, place: usize, budget: u32) -> Traced
     ensures { result ≡ malformed_at place budget rec }
 {
     if budget == 0 {
-        ended(0, 0, place, rec)
+        ended(None, 0, place, rec)
     } else {
-        ended(4, 0, place, rec)
+        ended(Some(Refusal::Malformed), 0, place, rec)
     }
 }
 
 // A piece whose memory, budget and room are found good: the header is written whatever comes.
-fn piece(rec: Record, mem: &mut [u8], text: &mut [u8], before: u32, budget: u32) -> Traced
-    requires { (length mem.old ≡ size) × (before + budget ≤ most) × (room_of before budget ≤ length text.old) }
+fn piece(rec: Record, mem: &mut Bank, text: &mut [u8], before: u32, budget: u32) -> Traced
+    requires { (before + budget ≤ most) × (room_of before budget ≤ length text.old) }
     ensures { Tells (piece_of before budget rec mem.old text.old) result mem.new text.new }
 {
     let place = put_head(text, before);
-    let well = well_formed(rec);
-    if well {
+    if well_formed(rec) {
         as_traced(trail(rec, mem, text, place, before, budget))
     } else {
         unfit(rec, place, budget)
@@ -97,16 +87,16 @@ pub fn traced_piece(
 ) -> Traced
     ensures { Tells (whole_piece before budget rec mem.old text.old) result mem.new text.new }
 {
-    if mem.len() != 65536 {
-        return ended(1, 0, 0, rec);
-    }
+    let Some(whole) = mem.as_mut_array() else {
+        return ended(Some(Refusal::Memory), 0, 0, rec);
+    };
     if !in_budget(before, budget) {
-        return ended(2, 0, 0, rec);
+        return ended(Some(Refusal::Budget), 0, 0, rec);
     }
     if text.len() < room(before, budget) {
-        return ended(3, 0, 0, rec);
+        return ended(Some(Refusal::Room), 0, 0, rec);
     }
-    piece(rec, mem, text, before, budget)
+    piece(rec, whole, text, before, budget)
 }
 
 // A whole traced run: a piece before which nothing was done.

@@ -2,13 +2,11 @@
 #![tactic(auto)]
 
 ghost use Rattle.std.specs.Prelude.{◌≡◌, ◌-◌};
-ghost use Rattle.words.specs.Words.{bit};
 ghost use Rattle.tracks.specs.Tracks.{track_of, second, third, is_direct, is_store, middles, place_by};
 
 use crate::types::Track;
-use cpu::registers::choose;
 use cpu::types::Kind;
-use words::{add, join};
+use words::{add, choose, join};
 
 pub mod types;
 
@@ -81,12 +79,7 @@ pub fn second_kind(t: Track) -> Kind
 {
     match t {
         Track::Inside => Kind::Invalid,
-        Track::Program => Kind::Program,
-        Track::Branch => Kind::Program,
-        Track::ReadDirect => Kind::Program,
-        Track::StoreDirect => Kind::Program,
-        Track::ReadAbsolute => Kind::Program,
-        Track::StoreAbsolute => Kind::Program,
+        _ => Kind::Program,
     }
 }
 
@@ -95,13 +88,8 @@ pub fn third_kind(t: Track) -> Kind
     ensures { result ≡ third t }
 {
     match t {
-        Track::Inside => Kind::Invalid,
-        Track::Program => Kind::Program,
-        Track::Branch => Kind::Invalid,
-        Track::ReadDirect => Kind::Invalid,
-        Track::StoreDirect => Kind::Invalid,
-        Track::ReadAbsolute => Kind::Program,
-        Track::StoreAbsolute => Kind::Program,
+        Track::Program | Track::ReadAbsolute | Track::StoreAbsolute => Kind::Program,
+        _ => Kind::Invalid,
     }
 }
 
@@ -109,43 +97,21 @@ pub fn third_kind(t: Track) -> Kind
 pub fn is_direct(t: Track) -> bool
     ensures { result ≡ is_direct t }
 {
-    match t {
-        Track::Inside => false,
-        Track::Program => false,
-        Track::Branch => false,
-        Track::ReadDirect => true,
-        Track::StoreDirect => true,
-        Track::ReadAbsolute => false,
-        Track::StoreAbsolute => false,
-    }
+    matches!(t, Track::ReadDirect | Track::StoreDirect)
 }
 
 // Whether data is stored.
 pub fn is_store(t: Track) -> bool
     ensures { result ≡ is_store t }
 {
-    match t {
-        Track::Inside => false,
-        Track::Program => false,
-        Track::Branch => false,
-        Track::ReadDirect => false,
-        Track::StoreDirect => true,
-        Track::ReadAbsolute => false,
-        Track::StoreAbsolute => true,
-    }
+    matches!(t, Track::StoreDirect | Track::StoreAbsolute)
 }
 
 // What is left of n cycles without k of them.
 pub fn less(n: u32, k: u32) -> u32
     ensures { result ≡ n - k }
 {
-    if n < k { 0 } else { n - k }
-}
-
-fn cycle_if(t: bool) -> u32
-    ensures { result ≡ bit t }
-{
-    if t { 1 } else { 0 }
+    n.saturating_sub(k)
 }
 
 // How many of an instruction's n cycles lie between the first two and the data.
@@ -153,13 +119,9 @@ pub fn between(t: Track, skew: bool, n: u32) -> u32
     ensures { result ≡ middles t skew n }
 {
     match t {
-        Track::Inside => less(n, 2),
-        Track::Program => less(n, 2),
-        Track::Branch => less(n, 2),
-        Track::ReadDirect => cycle_if(skew),
-        Track::StoreDirect => cycle_if(skew),
-        Track::ReadAbsolute => 1,
-        Track::StoreAbsolute => 1,
+        Track::Inside | Track::Program | Track::Branch => less(n, 2),
+        Track::ReadDirect | Track::StoreDirect => u32::from(skew),
+        Track::ReadAbsolute | Track::StoreAbsolute => 1,
     }
 }
 

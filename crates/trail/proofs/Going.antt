@@ -1,24 +1,22 @@
 -- How the loop of cycles, a stretch and then a cycle, meets the run and its lines.
 use Prim.Native.Nat.{ℕ, ◌+◌, ◌*◌, ◌-◌, ◌≤◌, ◌<◌}
+use Rattle.std.proofs.Common.{Result, Ok, Err, Option, Some, None}
 use mathlib.Core.Path.{◌≡◌, refl, sym, ◌∙◌, ap, subst}
 use mathlib.Core.Bool.{true}
 use mathlib.Core.List.{List, ◌++◌}
 use native.Mathlib.Omega.{arith}
 use native.Mathlib.Nat.{add-zero, sub-zero}
 use lib.ListN.{length}
-use Rattle.cpu.specs.Record.{well_formed, number_of}
+use Rattle.cpu.specs.Record.{well_formed}
 use Rattle.cpu.specs.declared.types.Record.{Record}
 use Rattle.cpu.specs.declared.types.Request.{Request}
 use Rattle.cpu.specs.declared.types.Refusal.{Refusal}
 use Rattle.memory.specs.Turns.{cycle_of, store_of}
-use Rattle.memory.specs.declared.types.Turn.{Turn}
-use Rattle.memory.specs.declared.types.Turn.TheVariants.{Done, Stop}
 use Rattle.trace.specs.Text.{line_text, lines_text, Put, Wrote}
 use Rattle.trace.proofs.Laws.{then, lines_append, wrote_length, Rest, rest_all, rest_none, rest_line}
 use Rattle.run.specs.Runs.{ends, run_of, most}
 use Rattle.run.specs.Passes.{Passes}
 use Rattle.run.proofs.Laws.{Left, left_all, left_done, next_done, next_stop, next_none, still_well}
-use Rattle.run.proofs.Counted.{run_size}
 use Rattle.run.proofs.Stretches.{left_ahead}
 use Rattle.drive.specs.Drives.{Walked, Driven}
 use Rattle.drive.specs.declared.types.Walk.{Walk}
@@ -30,7 +28,6 @@ use Rattle.trail.specs.Trails.{told_as, Listed}
 
 pub record Going (b before : ℕ) (m₀ t₀ : List ℕ) (p₀ : ℕ) (r₀ : Record) (m t : List ℕ) (p : ℕ) (r : Record) (d : ℕ) : Type 0 where
   pub within : d ≤ b
-  pub bank : length m ≡ length m₀
   pub size : length t ≡ length t₀
   pub room : p + 22 * (b - d) ≤ length t
   pub well : well_formed r ≡ true
@@ -41,7 +38,6 @@ pub going_start : (b before : ℕ) (m t : List ℕ) (p : ℕ) (r : Record) → p
 going_start b before m t p r h w =
     record {
       within = omega arith;
-      bank = refl;
       size = refl;
       room = omega arith;
       well = w;
@@ -51,14 +47,13 @@ going_start b before m t p r h w =
 
 module _ (b before : ℕ) (m₀ t₀ : List ℕ) (p₀ : ℕ) (r₀ : Record) (m t : List ℕ) (p : ℕ) (r : Record) (d : ℕ) (i : Going b before m₀ t₀ p₀ r₀ m t p r d) where
   -- c is what the turn answered, m' the memory and t' the text that it left
-  pub going_on : (s : Record) (m' t' : List ℕ) (p' : ℕ) (l : Request) (c : Turn) → d < b → before + b ≤ most → c ≡ cycle_of r m → m' ≡ store_of c m → c ≡ Done l s → length m' ≡ length m → Put t t' p p' (line_text (before + d + 1) l) → Going b before m₀ t₀ p₀ r₀ m' t' p' s (d + 1)
-  going_on s m' t' p' l c h q e f g k u =
+  pub going_on : (s : Record) (m' t' : List ℕ) (p' : ℕ) (l : Request) (c : Result (Request × Record) Refusal) → d < b → before + b ≤ most → c ≡ cycle_of r m → m' ≡ store_of c m → c ≡ Ok (l, s) → Put t t' p p' (line_text (before + d + 1) l) → Going b before m₀ t₀ p₀ r₀ m' t' p' s (d + 1)
+  going_on s m' t' p' l c h q e f g u =
       let x = next_done b d r s m m' l c h e f g in
       let z = rest_line l (omega arith) (omega (arith, i.room)) (rw x at i.rest) u in
       let n : before + (d + 1) + 1 ≡ before + d + 1 + 1 = omega arith in
       record {
         within = omega arith;
-        bank = k ∙ i.bank;
         size = z.size ∙ i.size;
         room = omega (arith, z.size, z.after, i.room);
         well = still_well r s m l c e g;
@@ -67,22 +62,22 @@ module _ (b before : ℕ) (m₀ t₀ : List ℕ) (p₀ : ℕ) (r₀ : Record) (m
       }
 
   -- the answer where the loop ends
-  listed : (k : ℕ) (m' : List ℕ) → run_of (b - d) r m ≡ ends k r m' → Listed (run_of b r₀ m₀) (before + 1) p₀ t₀ (told_as k d p r) m' t
+  listed : (k : Option Refusal) (m' : List ℕ) → run_of (b - d) r m ≡ ends k r m' → Listed (run_of b r₀ m₀) (before + 1) p₀ t₀ (told_as k d p r) m' t
   listed k m' x =
       let a : Left d (run_of b r₀ m₀) (ends k r m') = rw x at i.left in
       let w = rest_none t₀ t p₀ (before + 1) p (before + d + 1) _ (rw x at i.rest) in
       let n : length (run_of b r₀ m₀).lines ≡ d = omega (arith, a.count) in
       record {
-        answer = rw (a.number, a.rec, n, ← w.place);
+        answer = rw (a.refusal, a.rec, n, ← w.place);
         mem = sym a.mem;
         text = w.text;
       }
 
-  pub going_stop : (m' : List ℕ) (k : Refusal) (c : Turn) → d < b → c ≡ cycle_of r m → m' ≡ store_of c m → c ≡ Stop k → Listed (run_of b r₀ m₀) (before + 1) p₀ t₀ (told_as (number_of k) d p r) m' t
-  going_stop m' k c h e f g = listed (number_of k) m' (next_stop b d r m m' k c h e f g)
+  pub going_stop : (m' : List ℕ) (k : Refusal) (c : Result (Request × Record) Refusal) → d < b → c ≡ cycle_of r m → m' ≡ store_of c m → c ≡ Err k → Listed (run_of b r₀ m₀) (before + 1) p₀ t₀ (told_as (Some k) d p r) m' t
+  going_stop m' k c h e f g = listed (Some k) m' (next_stop b d r m m' k c h e f g)
 
-  pub going_end : b ≤ d → Listed (run_of b r₀ m₀) (before + 1) p₀ t₀ (told_as 0 d p r) m t
-  going_end h = listed 0 m (next_none b d r m h)
+  pub going_end : b ≤ d → Listed (run_of b r₀ m₀) (before + 1) p₀ t₀ (told_as None d p r) m t
+  going_end h = listed None m (next_none b d r m h)
 
   -- a stretch on, whose lines were drawn
   pub going_ahead : (gone : ℕ) (w : Walk) (m' t' : List ℕ) → d < b → before + b ≤ most
@@ -105,7 +100,6 @@ module _ (b before : ℕ) (m₀ t₀ : List ℕ) (p₀ : ℕ) (r₀ : Record) (m
       let s : length t' ≡ length t = wrote_length x.wrote in
       record {
         within = omega (arith, h);
-        bank = ap length (sym x.passes.mem) ∙ run_size n r m ∙ i.bank;
         size = s ∙ i.size;
         room = omega (arith, v, s, i.room, h);
         well = x.well;

@@ -1,9 +1,9 @@
 // How a trace has ended.
-use cpu::types::Record;
+use cpu::types::{Record, Refusal};
 
 #[derive(Clone, Copy)]
 pub struct Told {
-    pub refusal: u8, // document 01's number, or 0 for none
+    pub refusal: Option<Refusal>,
     pub cycles: u32, // how many were completed
     pub place: usize, // after the last line
     pub after: Record,

@@ -3,6 +3,7 @@ ghost use Rattle.std.specs.Prelude.{◌≡◌};
 ghost use Rattle.session_port.specs.Port.{session_cycle, session_cycles};
 ghost use Rattle.walk_port.specs.Walk.{cycles_number};
 
+use cpu::record::number_in;
 use numbers::numbers::run_number;
 use session_port::sessions::cycles_of;
 
@@ -13,7 +14,7 @@ pub fn glavorint_session_cycle(session: &mut [u8], mem: &mut [u8]) -> u8
         × (mem.new ≡ (session_cycle session.old mem.old).mem) }
 {
     let t = cycles_of(session, mem, 1);
-    t.number
+    number_in(t.refusal)
 }
 
 // The session after at most `count` cycles, up to the first that is refused.
@@ -23,5 +24,5 @@ pub fn glavorint_session_cycles(session: &mut [u8], mem: &mut [u8], count: u32) 
         × (mem.new ≡ (session_cycles session.old mem.old count).mem) }
 {
     let t = cycles_of(session, mem, count);
-    run_number(t.number, t.cycles)
+    run_number(t.refusal, t.cycles)
 }

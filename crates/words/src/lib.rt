@@ -19,6 +19,7 @@ pub fn high(w: u16) -> u8
 }
 
 // `ByteRef::Low(w).set(b)`: the word with another low byte.
+#[tactic(auto, unfolding(crate::specs::Words::low_set))]
 pub fn with_low(w: u16, b: u8) -> u16
     ensures { result ≡ low_set w b }
 {
@@ -26,6 +27,7 @@ pub fn with_low(w: u16, b: u8) -> u16
 }
 
 // `ByteRef::High(w).set(b)`: the word with another high byte.
+#[tactic(auto, unfolding(crate::specs::Words::word))]
 pub fn with_high(w: u16, b: u8) -> u16
     ensures { result ≡ word w b }
 {
@@ -40,6 +42,7 @@ pub fn join(l: u8, h: u8) -> u16
 }
 
 // The word with its halves changed over.
+#[tactic(auto, unfolding(crate::specs::Words::swapped))]
 pub fn swap(w: u16) -> u16
     ensures { result ≡ swapped w }
 {
@@ -47,27 +50,31 @@ pub fn swap(w: u16) -> u16
 }
 
 // The next word, 0000 after FFFF.
+#[tactic(auto, unfolding(crate::specs::Words::inc))]
 pub fn up(w: u16) -> u16
     ensures { result ≡ inc w }
 {
-    std::num::wrapping_add_u16(w, 1)
+    w.wrapping_add(1)
 }
 
 // The word before, FFFF before 0000.
+#[tactic(auto, unfolding(crate::specs::Words::dec))]
 pub fn down(w: u16) -> u16
     ensures { result ≡ dec w }
 {
-    std::num::wrapping_sub_u16(w, 1)
+    w.wrapping_sub(1)
 }
 
 // A sum that wraps: an index, or a displacement of a word, whatever its sign.
+#[tactic(auto, unfolding(crate::specs::Words::sum16))]
 pub fn add(w: u16, by: u16) -> u16
     ensures { result ≡ sum16 w by }
 {
-    std::num::wrapping_add_u16(w, by)
+    w.wrapping_add(by)
 }
 
 // A byte with its sign, as a word.
+#[tactic(auto, unfolding(crate::specs::Words::signed))]
 pub fn extend(b: u8) -> u16
     ensures { result ≡ signed b }
 {
@@ -79,6 +86,7 @@ pub fn extend(b: u8) -> u16
 }
 
 // `wrapping_add_signed` of a byte: where a branch goes.
+#[tactic(auto, unfolding(crate::specs::Words::displaced))]
 pub fn add_signed(w: u16, b: u8) -> u16
     ensures { result ≡ displaced w b }
 {
@@ -86,6 +94,7 @@ pub fn add_signed(w: u16, b: u8) -> u16
 }
 
 // The 24-bit address of a word in a bank.
+#[tactic(auto, unfolding(crate::specs::Words::at))]
 pub fn address(bank: u8, w: u16) -> u32
     ensures { result ≡ at bank w }
 {
@@ -93,13 +102,15 @@ pub fn address(bank: u8, w: u16) -> u32
 }
 
 // A 24-bit sum, 000000 after FFFFFF.
+#[tactic(auto, unfolding(crate::specs::Words::sum24))]
 pub fn add24(addr: u32, by: u32) -> u32
     ensures { result ≡ sum24 addr by }
 {
-    std::num::wrapping_add_u32(addr, by) % 16777216
+    addr.wrapping_add(by) % 16777216
 }
 
 // Whether two words lie on one page.
+#[tactic(auto, unfolding(crate::specs::Words::same_page))]
 pub fn same_page(p: u16, q: u16) -> bool
     ensures { result ≡ same_page p q }
 {
@@ -107,17 +118,19 @@ pub fn same_page(p: u16, q: u16) -> bool
 }
 
 // S as emulation wants it: its high byte 1.
+#[tactic(auto, unfolding(crate::specs::Words::page_one))]
 pub fn page_one(emulation: bool, s: u16) -> u16
     ensures { result ≡ page_one emulation s }
 {
-    if emulation { 256 + s % 256 } else { s }
+    choose(emulation, 256 + s % 256, s)
 }
 
 // X or Y as the index flag wants it: its high byte 0 where that is set.
+#[tactic(auto, unfolding(crate::specs::Words::index))]
 pub fn index_at(narrow: bool, x: u16) -> u16
     ensures { result ≡ index narrow x }
 {
-    if narrow { x % 256 } else { x }
+    choose(narrow, x % 256, x)
 }
 
 // Truth values. A call keeps the code straight where `&&` would branch.
@@ -139,8 +152,8 @@ pub fn implies(a: bool, b: bool) -> bool
     if a { b } else { true }
 }
 
-// One of two truth values, by a third.
-pub fn choose(t: bool, a: bool, b: bool) -> bool
+// One of two values, by a test.
+pub fn choose<T: Copy>(t: bool, a: T, b: T) -> T
     ensures { result ≡ pick t a b }
 {
     if t { a } else { b }
@@ -151,5 +164,5 @@ pub fn one_if(t: bool) -> u8
     ensures value { result ≡ bit t }
     ensures small { result ≤ 1 }
 {
-    if t { 1 } else { 0 }
+    u8::from(t)
 }

@@ -10,25 +10,25 @@ use Rattle.dial.proofs.of_tens.Goals as goal
 pub loop-k-init : goal.loop-k-init
 loop-k-init c = (before_none (front_of (c.args.m % 10000000)), omega arith)
 
-pub overflow_mul-v : goal.overflow_mul-v
-overflow_mul-v c =
+pub overflow_mul-front : goal.overflow_mul-front
+overflow_mul-front c =
     let m = c.args.m in
-    omega (arith, front_holds c.loop-k.k c.loop-k.v c.loop-k-test.true, c.loop-k.invariant.0, front_small (m % 10000000) (omega arith))
+    omega (arith, front_holds c.loop-k.k c.loop-k.front c.loop-k-test.true, c.loop-k.invariant.0, front_small (m % 10000000) (omega arith))
 
-pub overflow_add-v-in-loop-k : goal.overflow_add-v-in-loop-k
-overflow_add-v-in-loop-k c =
+pub overflow_add-front-in-loop-k : goal.overflow_add-front-in-loop-k
+overflow_add-front-in-loop-k c =
     let m = c.args.m in
-    omega (arith, front_holds c.loop-k.k c.loop-k.v c.loop-k-test.true, c.loop-k.invariant.0, front_small (m % 10000000) (omega arith))
+    omega (arith, front_holds c.loop-k.k c.loop-k.front c.loop-k-test.true, c.loop-k.invariant.0, front_small (m % 10000000) (omega arith))
 
-pub overflow_add-w : goal.overflow_add-w
-overflow_add-w c =
+pub overflow_add-width : goal.overflow_add-width
+overflow_add-width c =
     let m = c.args.m in
     omega (arith, front_short (m % 10000000) (omega arith))
 
 pub loop-k-preserved : goal.loop-k-preserved
 loop-k-preserved c =
     let less = c.loop-k-test.true in
-    (sym (front_step c.loop-k.k c.loop-k.v less) ∙ c.loop-k.invariant.0, omega (arith, front_longer c.loop-k.k less, c.loop-k.invariant.1))
+    (sym (front_step c.loop-k.k c.loop-k.front less) ∙ c.loop-k.invariant.0, omega (arith, front_longer c.loop-k.k less, c.loop-k.invariant.1))
 
 pub returns : goal.returns
 unfolding of_tens

@@ -9,4 +9,4 @@ pub returns : goal.returns
 returns c =
     let u = c.put_near-q.ensures in
     rw c.mark_of.ensures
-    (drawn_line _ _ c.args.m _ _ Data c.args.store c.args.p (get_or c.args.mem.now c.args.p 0) (search rules) (omega (arith, c.shared_slice_known-1.given c.args.p)) (rw (c.data_marks.ensures, c.tail.ensures) at u) c.turned.ensures)
+    (drawn_line _ _ c.args.m _ _ Data c.args.store c.args.p (get_or c.args.mem.now c.args.p 0) (search rules) (search rules) (rw (c.data_marks.ensures, c.tail.ensures) at u) c.turned.ensures)

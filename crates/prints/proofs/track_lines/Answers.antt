@@ -11,7 +11,7 @@ returns c =
       c.between-k.ensures,
       c.low.ensures,
       c.third_kind.ensures,
-      c.byte_by.ensures,
+      c.choose-2.ensures,
       c.choose.ensures,
       c.up-3.ensures,
       c.up-2.ensures,

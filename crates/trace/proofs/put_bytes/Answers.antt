@@ -1,7 +1,11 @@
-use native.Mathlib.Omega.{arith}
-use lib.ListN.{length-set}
-use Rattle.trace.proofs.Laws.{wrote_next}
+use Prim.Native.Nat.{◌+◌, ◌≤◌}
+use lib.ListN.{length}
+use borrow.Author.Tests.{leb-true}
+use mathlib.Core.Path.{sym, ◌∙◌}
+use Rattle.trace.proofs.Laws.{wrote_put, wrote_part}
 use Rattle.trace.proofs.put_bytes.Goals as goal
 
-pub loop-i-preserved : goal.loop-i-preserved
-loop-i-preserved c = (omega arith, simp length-set (omega arith), wrote_next _ _ _ _ _ c.loop-i-test.true c.loop-i.invariant.2)
+pub returns : goal.returns
+returns c =
+    let room : c.args.at + length c.args.src.now ≤ length c.args.text.now = leb-true _ _ (sym c.has_room.ensures ∙ c.if-not-has_room.false) in
+    wrote_put room (wrote_part c.args.text.now c.args.src.now c.args.at _ c.copy_from_slice.ensures.after room)

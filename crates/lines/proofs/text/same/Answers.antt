@@ -8,10 +8,10 @@ unfolding same_at
 loop-i-init c = refl
 
 pub returns-then-not-is_at : goal.returns-then-not-is_at
-returns-then-not-is_at c = same_not _ _ _ _ _ _ c.loop-i-test.true c.past.ensures c.is_at.ensures c.if-not-is_at.true-raw ∙ c.loop-i.invariant
+returns-then-not-is_at c = same_not _ _ _ _ _ _ c.loop-i-test.true c.past.ensures c.is_at.ensures c.if-not-is_at.true ∙ c.loop-i.invariant
 
 pub loop-i-preserved : goal.loop-i-preserved
-loop-i-preserved c = same_more _ _ _ _ _ _ c.loop-i-test.true c.past.ensures c.is_at.ensures c.if-not-is_at.false-raw ∙ c.loop-i.invariant
+loop-i-preserved c = same_more _ _ _ _ _ _ c.loop-i-test.true c.past.ensures c.is_at.ensures c.if-not-is_at.false ∙ c.loop-i.invariant
 
 pub returns : goal.returns
 returns c = same_all _ _ _ _ c.loop-i-test.false ∙ c.loop-i.invariant

@@ -1,4 +1,5 @@
 use mathlib.Core.Path.{sym, ap, ◌∙◌}
+use Rattle.cpu.specs.Record.{number_in}
 use Rattle.run.specs.declared.types.Outcome.{Outcome}
 use Rattle.packed.specs.Packed.{pack}
 use Rattle.packed.proofs.RoundTrip.{put_back}
@@ -14,9 +15,9 @@ returns-in_default c =
 pub returns : goal.returns
 returns c =
     let u = c.unpack-u.ensures in
-    let e = run_good c.args.rec.now c.args.mem.now c.args.budget _ u _ c.in-Good.is in
+    let e = run_good c.args.rec.now c.args.mem.now c.args.budget _ u _ c.in-Some.is in
     let t = c.run-o.ensures.0 in (
-      rw e (c.run_number-2.ensures ∙ ap (λ (z : Outcome). run_number z.refusal z.cycles) t),
-      rw e (put_back c.args.rec.now _ _ _ _ (sym u ∙ c.in-Good.is) c.pack-bytes.ensures c.put.ensures ∙ ap (λ (z : Outcome). pack z.after) t),
+      rw e (c.run_number-2.ensures ∙ ap (λ (z : Outcome). run_number (number_in z.refusal) z.cycles) t),
+      rw e (put_back c.args.rec.now _ _ _ _ (sym u ∙ c.in-Some.is) c.pack-bytes.ensures c.put.ensures ∙ ap (λ (z : Outcome). pack z.after) t),
       rw e c.run-o.ensures.1,
     )

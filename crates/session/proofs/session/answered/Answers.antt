@@ -4,7 +4,8 @@ use Rattle.session.proofs.session.answered.Goals as goal
 pub returns-in_default : goal.returns-in_default
 unfolding answered_to
 returns-in_default c = simp (
-  c.number_of.ensures,
+  c.stepped.ensures,
+  c.err.ensures.value,
   c.in_default.is,
   ← c.answer-a.ensures,
 )
@@ -12,7 +13,8 @@ returns-in_default c = simp (
 pub returns : goal.returns
 unfolding answered_to
 returns c = simp (
-  c.count-cycles.ensures,
-  c.in-Next.is,
+  c.stepped-2.ensures,
+  c.gone_on.ensures,
+  c.in-Ok.is,
   ← c.answer-a.ensures,
 )

@@ -1,5 +1,3 @@
-use Prim.Native.Nat.{◌-◌}
-use mathlib.Core.Bool.{true}
 use mathlib.Core.Path.{sym}
 use native.Mathlib.Omega.{arith}
 use Rattle.run.proofs.Laws.{left_done, left_stop, left_end, left_told, turned, still_well}
@@ -7,18 +5,18 @@ use Rattle.session_port.proofs.repeated.paces.Goals as goal
 
 pub returns-in_default : goal.returns-in_default
 returns-in_default c =
-    let t = turned _ _ _ _ c.loop-done.invariant.2 c.well_micro.ensures c.turn-t.ensures.0 in
+    let t = turned _ _ _ _ c.loop-done.invariant.1 c.well_micro.ensures c.turn-t.ensures.0 in
     let g = c.in_default.is in
-    let a = left_stop _ _ _ _ _ _ _ _ c.loop-done-test.true t c.turn-t.ensures.1 g c.loop-done.invariant.3 in
-    (rw (c.ended.ensures, c.refused_by.ensures, g) (left_told _ _ _ _ _ a), sym a.mem)
+    let a = left_stop _ _ _ _ _ _ _ _ c.loop-done-test.true t c.turn-t.ensures.1 g c.loop-done.invariant.2 in
+    (rw (c.ended.ensures, c.err.ensures.value, g) (left_told _ _ _ _ _ a), sym a.mem)
 
 pub loop-done-preserved : goal.loop-done-preserved
 loop-done-preserved c =
-    let t = turned _ _ _ _ c.loop-done.invariant.2 c.well_micro.ensures c.turn-t.ensures.0 in
-    let g = c.in-Done.is in
-    (omega arith, omega (arith, c.turn-t.auto.mem, c.loop-done.invariant.1), still_well _ _ _ _ _ t g, left_done _ _ _ _ _ _ _ _ _ c.loop-done-test.true t c.turn-t.ensures.1 g c.loop-done.invariant.3)
+    let t = turned _ _ _ _ c.loop-done.invariant.1 c.well_micro.ensures c.turn-t.ensures.0 in
+    let g = c.in-Ok.is in
+    (omega arith, still_well _ _ _ _ _ t g, left_done _ _ _ _ _ _ _ _ _ c.loop-done-test.true t c.turn-t.ensures.1 g c.loop-done.invariant.2)
 
 pub returns : goal.returns
 returns c =
-    let a = left_end _ _ _ _ _ c.loop-done-test.false c.loop-done.invariant.3 in
+    let a = left_end _ _ _ _ _ c.loop-done-test.false c.loop-done.invariant.2 in
     (rw c.ended-2.ensures (left_told _ _ _ _ _ a), sym a.mem)

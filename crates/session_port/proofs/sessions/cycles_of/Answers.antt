@@ -12,13 +12,13 @@ returns-in_default c =
 
 pub put_session-requires : goal.put_session-requires
 put_session-requires c =
-    opened_size c.args.session.now _ (sym c.session_of-o.ensures ∙ c.in-Good.is)
+    opened_size c.args.session.now _ (sym c.session_of-o.ensures ∙ c.in-Some.is)
 
 pub returns : goal.returns
 returns c =
-    let e = cycles_good c.args.session.now c.args.mem.now c.args.count _ c.session_of-o.ensures _ c.in-Good.is in
+    let e = cycles_good c.args.session.now c.args.mem.now c.args.count _ c.session_of-o.ensures _ c.in-Some.is in
     let t = c.repeated-w.ensures.0 in (
-      rw e (c.tally-2.ensures ∙ ap (λ (z : Went). tallied z.cycles z.number) t),
+      rw e (c.tally-2.ensures ∙ ap (λ (z : Went). tallied z.cycles z.refusal) t),
       rw e (c.put_session.ensures ∙ ap (λ (z : Went). pack_session z.session) t),
       rw e c.repeated-w.ensures.1,
     )

@@ -1,15 +1,15 @@
 use Rattle.session_port.specs.Port.{session_request}
 use Rattle.session_port.proofs.sessions.glavorint_session_request.Goals as goal
 
-pub returns-in-Good : goal.returns-in-Good
+pub returns-in-Some : goal.returns-in-Some
 unfolding session_request
-returns-in-Good c = simp (
+returns-in-Some c = simp (
   c.asked_number.ensures,
   c.asking.ensures,
-  c.in-Good.is,
+  c.in-Some.is,
   ← c.session_of-o.ensures,
 )
 
-pub returns-in-Bad : goal.returns-in-Bad
+pub returns-in-None : goal.returns-in-None
 unfolding session_request
-returns-in-Bad c = simp (c.in-Bad.is, ← c.session_of-o.ensures)
+returns-in-None c = simp (c.in-None.is, ← c.session_of-o.ensures)

@@ -12,20 +12,20 @@ returns-then-bytes-ne40 c = simp (ne_eqb _ _ c.if-bytes-ne40.true)
 pub slice_bounds-unpack-end : goal.slice_bounds-unpack-end
 slice_bounds-unpack-end c = sym (length-take-le 32 c.args.bytes.now (omega arith))
 
-pub returns-in-Good : goal.returns-in-Good
+pub returns-in-Some : goal.returns-in-Some
 unfolding opened
-returns-in-Good c = simp (
+returns-in-Some c = simp (
   c.session_at.ensures,
   c.count_at.ensures,
-  c.in-Good.is,
+  c.in-Some.is,
   ← c.unpack-u.ensures,
   eq-eqb _ _ c.if-bytes-ne40.false,
 )
 
-pub returns-in-Bad : goal.returns-in-Bad
+pub returns-in-None : goal.returns-in-None
 unfolding opened
-returns-in-Bad c = simp (
-  c.in-Bad.is,
+returns-in-None c = simp (
+  c.in-None.is,
   ← c.unpack-u.ensures,
   eq-eqb _ _ c.if-bytes-ne40.false,
 )

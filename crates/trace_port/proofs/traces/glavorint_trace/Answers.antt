@@ -1,4 +1,5 @@
 use mathlib.Core.Path.{sym, ap, ◌∙◌}
+use Rattle.cpu.specs.Record.{number_in}
 use Rattle.traced.specs.declared.types.Traced.{Traced}
 use Rattle.packed.specs.Packed.{pack}
 use Rattle.packed.proofs.RoundTrip.{put_back}
@@ -18,10 +19,10 @@ trace_number-requires-2 c =
 pub returns : goal.returns
 returns c =
     let u = c.unpack-u.ensures in
-    let e = trace_good c.args.rec.now c.args.mem.now c.args.text.now c.args.before c.args.budget _ u _ c.in-Good.is in
+    let e = trace_good c.args.rec.now c.args.mem.now c.args.text.now c.args.before c.args.budget _ u _ c.in-Some.is in
     let t = c.traced_piece-o.ensures in (
-      rw e (c.trace_number-2.ensures ∙ ap (λ (z : Traced). trace_number z.refusal z.cycles z.written) t.answer),
-      rw e (put_back c.args.rec.now _ _ _ _ (sym u ∙ c.in-Good.is) c.pack-bytes.ensures c.put.ensures ∙ ap (λ (z : Traced). pack z.after) t.answer),
+      rw e (c.trace_number-2.ensures ∙ ap (λ (z : Traced). trace_number (number_in z.refusal) z.cycles z.written) t.answer),
+      rw e (put_back c.args.rec.now _ _ _ _ (sym u ∙ c.in-Some.is) c.pack-bytes.ensures c.put.ensures ∙ ap (λ (z : Traced). pack z.after) t.answer),
       rw e t.mem,
       rw e t.text,
     )

@@ -1,5 +1,0 @@
-use Rattle.std.proofs.Common.{length, ◌-◌}
-use Rattle.drill.proofs.figure.figure.Given as goal
-
-abbrev pub decreases-loop-n : goal.decreases-loop-n
-decreases-loop-n g l = length l.bytes - l.n
