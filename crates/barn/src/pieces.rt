@@ -21,7 +21,7 @@ pub trait Pieces {
     fn piece(&self, rec: &mut [u8], mem: &mut [u8], before: u32, budget: u32) -> io::Result<Ran>;
 }
 
-// At most `budget` cycles: how they ended.
+// At most `budget` cycles: how they ended. What is left goes down by a piece, and a refusal ends it, so no range counts the turns.
 fn all_pieces<P: Pieces, E: Print>(
     of: &P,
     progress: &Progress<E>,

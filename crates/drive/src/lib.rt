@@ -95,7 +95,8 @@ impl Lined for Hauling {
     }
 }
 
-// As many as there is room for, with their lines; a cycle at least is left.
+// As many as there is room for, with their lines; a cycle at least is left. `start` and `number` come one by one, since the loop's mark is made of
+// them here: handed over in a struct by reference it was slow (docs/SPEED.md).
 fn paces<P: Lined>(
     r: Record,
     mem: &mut Bank,

@@ -1,4 +1,5 @@
-// A line's characters: every function answers for any place, past the line's end too.
+// A line's characters: every function answers for any place, past the line's end too. A line and a place stay two parameters, since a function asks
+// at several places of one line: a cursor would be made anew for each, and be no plainer.
 ghost use Rattle.std.specs.Prelude.{◌≡◌};
 ghost use Rattle.lines.specs.Text.{past_of, byte_at, is_at, same_at, digit_of, is_byte, is_word, byte_of, word_of};
 

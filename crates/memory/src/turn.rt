@@ -26,13 +26,7 @@ fn bus_byte(q: Request, mem: &[u8]) -> u8
 fn line(q: Request, byte: u8) -> Request
     ensures { result ≡ crossed q byte }
 {
-    let kind = q.kind;
-    Request {
-        write: q.write,
-        kind: kind,
-        addr: q.addr,
-        byte: byte,
-    }
+    Request { byte, ..q }
 }
 
 fn refusal(a: Result<Record, Refusal>) -> Refusal

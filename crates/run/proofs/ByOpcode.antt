@@ -1,6 +1,7 @@
 -- What a whole instruction comes to, by its opcode: the law that the code of a stride leans on.
 use Prim.Native.Nat.{ℕ, ◌+◌, ◌<◌}
 use Rattle.std.proofs.Common.{Option, Some, None}
+use Rattle.std.specs.Prelude.{IfSome}
 use mathlib.Core.Path.{◌≡◌, refl, ap, sym, subst, ◌∙◌}
 use mathlib.Core.Bool.{Bool, true, false, not, ◌&&◌, ◌||◌}
 use mathlib.Core.List.{List, [], ◌∷◌}
@@ -31,12 +32,14 @@ use Rattle.sheet.specs.Sheet.{sheet, row, instruction}
 use Rattle.sheet.proofs.Walk.{false_true, and_left, and_right}
 use Rattle.sheet.proofs.Demand2.{demand_2, between_bytes}
 use Rattle.run.specs.Runs.{run_of, size}
-use Rattle.stride.specs.Strides.{fresh, there, operand, inside, opcode, leg_by, mem_by, leg_of, mem_of, arrived, placed, storing, branching, spot_of, reading, stretch, stride_of, stride_mem}
+use Rattle.stride.specs.Strides.{fresh, there, operand, inside, opcode, leg_by, mem_by, leg_of, mem_of, mem_at, arrived, placed, storing, branching, direct_spot, absolute_spot, spot_of, reading, read_at, stored_at, strode_by, stretch, stride_of, stride_mem}
 use Rattle.haul.specs.Hauls.{between, near, hauled, carried, hauls, haul_of, haul_mem}
 use Rattle.tracks.specs.Tracks.{track_by, track_of, track_lines, place_by, stride_lines, haul_lines}
 use Rattle.tracks.specs.declared.types.Track.{Track}
 use Rattle.tracks.specs.declared.types.Track.TheVariants as track
 use Rattle.run.specs.Passes.{Passes, Leaves, Goes}
+use Rattle.stride.specs.declared.types.Leg.{Leg}
+use Rattle.stride.specs.declared.types.Spot.{Spot}
 use Rattle.stride.specs.declared.types.Stretch.{Stretch}
 use Rattle.run.proofs.Whole.{passes_none}
 use Rattle.quick.specs.declared.types.Mode.{Mode}
@@ -140,9 +143,7 @@ module _ (r : Record) (m : List ℕ) (whole : length m ≡ size) (well : well_fo
 
   -- what is to be shown of an opcode
   abbrev Stride : ℕ → Option (Shape × Operation) → Type 0
-  Stride i q = ((leg_by r m (quickened q)).cycles ≡ 0 → ⊥)
-      → Leaves (leg_by r m (quickened q)).cycles r m (arrived i (leg_by r m (quickened q))) (mem_by r m (quickened q))
-      (lines_by (track_by (quickened q)) (leg_by r m (quickened q)).cycles (mem_by r m (quickened q)))
+  Stride i q = IfSome (leg_by r m (quickened q)) (λ l. Leaves l.cycles r m (arrived i l) (mem_by r m (quickened q)) (lines_by (track_by (quickened q)) l.cycles (mem_by r m (quickened q))))
 
   abbrev wide : Operation → Bool
   wide o = wide_of o r.flags.memsel r.flags.indexsel
@@ -166,14 +167,17 @@ module _ (r : Record) (m : List ℕ) (whole : length m ≡ size) (well : well_fo
 
     -- an operand in the data bank, by whether it lies inside
     absolute_read : (o : Operation) → is_read o ≡ true → decode_of op ≡ Some (Absolute, o) → (i : Bool) → inside r m (operand r m) ≡ i → Stride op (Some (Absolute, o))
-    absolute_read (operation.Read k g) h d true i =
+    absolute_read (operation.Read k g) h d t i =
         subst
-        (λ (t : Bool). (pick t (4 + bit (wide (operation.Read k g))) 0 ≡ 0 → ⊥)
-        → Leaves (pick t (4 + bit (wide (operation.Read k g))) 0) r m (arrived op (reading r m (spot_of r m mode.Absolute (wide (operation.Read k g))) k g (wide (operation.Read k g)))) m
-        (lines_by track.ReadAbsolute (pick t (4 + bit (wide (operation.Read k g))) 0) m))
-        (sym i)
-        (λ _. absolute_leaves r m whole bank small k g emulated (in_bank_0 i) (in_room i) (wide (operation.Read k g)) skew (row_is _ _ _ refl d))
-    absolute_read (operation.Read k g) h d false i = λ n. absurd (n (rw i))
+        (λ (t : Bool). IfSome (read_at r m (pick t (Some (absolute_spot r m (wide (operation.Read k g)))) None) k g (wide (operation.Read k g)))
+        (λ l. Leaves l.cycles r m (arrived op l) m (lines_by track.ReadAbsolute l.cycles m)))
+        (sym i) (by_inside t i)
+      where
+        by_inside : (t : Bool) → inside r m (operand r m) ≡ t
+            → IfSome (read_at r m (pick t (Some (absolute_spot r m (wide (operation.Read k g)))) None) k g (wide (operation.Read k g)))
+            (λ l. Leaves l.cycles r m (arrived op l) m (lines_by track.ReadAbsolute l.cycles m))
+        by_inside true i = absolute_leaves r m whole bank small k g emulated (in_bank_0 i) (in_room i) (wide (operation.Read k g)) skew (row_is _ _ _ refl d)
+        by_inside false i = tt
     absolute_read operation.Plain h d t i = absurd (false_true h)
     absolute_read (operation.Give s) h d t i = absurd (false_true h)
     absolute_read (operation.Take g) h d t i = absurd (false_true h)
@@ -182,7 +186,7 @@ module _ (r : Record) (m : List ℕ) (whole : length m ≡ size) (well : well_fo
     absolute_read (operation.Flag f) h d t i = absurd (false_true h)
 
     immediate_read : (o : Operation) → is_read o ≡ true → decode_of op ≡ Some (Immediate, o) → Stride op (Some (Immediate, o))
-    immediate_read (operation.Read k g) h d = λ _. immediate_leaves r m whole bank small k g emulated (wide (operation.Read k g)) skew (row_is _ _ _ refl d)
+    immediate_read (operation.Read k g) h d = immediate_leaves r m whole bank small k g emulated (wide (operation.Read k g)) skew (row_is _ _ _ refl d)
     immediate_read operation.Plain h d = absurd (false_true h)
     immediate_read (operation.Give s) h d = absurd (false_true h)
     immediate_read (operation.Take g) h d = absurd (false_true h)
@@ -196,7 +200,7 @@ module _ (r : Record) (m : List ℕ) (whole : length m ≡ size) (well : well_fo
     direct_first k g false = refl
 
     direct_read : (o : Operation) → is_read o ≡ true → decode_of op ≡ Some (Direct, o) → Stride op (Some (Direct, o))
-    direct_read (operation.Read k g) h d = λ _. direct_leaves r m whole bank small k g emulated (wide (operation.Read k g)) skew (row_is _ _ _ (direct_first k g skew) d)
+    direct_read (operation.Read k g) h d = direct_leaves r m whole bank small k g emulated (wide (operation.Read k g)) skew (row_is _ _ _ (direct_first k g skew) d)
     direct_read operation.Plain h d = absurd (false_true h)
     direct_read (operation.Give s) h d = absurd (false_true h)
     direct_read (operation.Take g) h d = absurd (false_true h)
@@ -209,24 +213,8 @@ module _ (r : Record) (m : List ℕ) (whole : length m ≡ size) (well : well_fo
     store_first src true = refl
     store_first src false = refl
 
-    -- the memory after, where there are cycles
-    direct_count : (w d : Bool) (a b : List ℕ) → pick (eqb (3 + bit w + bit d) 0) a b ≡ b
-    direct_count true true a b = refl
-    direct_count true false a b = refl
-    direct_count false true a b = refl
-    direct_count false false a b = refl
-
-    absolute_count : (w : Bool) (a b : List ℕ) → pick (eqb (4 + bit w) 0) a b ≡ b
-    absolute_count true a b = refl
-    absolute_count false a b = refl
-
     direct_store : (o : Operation) → is_give o ≡ true → decode_of op ≡ Some (StoreDirect, o) → Stride op (Some (StoreDirect, o))
-    direct_store (operation.Give src) h d = λ _.
-        let n : ℕ = 3 + bit (wide (operation.Give src)) + bit skew in
-        subst
-        (λ (k : List ℕ). Leaves n r m (arrived op (storing r m (spot_of r m mode.Direct (wide (operation.Give src))))) k (lines_by track.StoreDirect n k))
-        (sym (direct_count (wide (operation.Give src)) skew m _))
-        (store_direct_leaves r m whole bank small src emulated (wide (operation.Give src)) skew (row_is _ _ _ (store_first src skew) d))
+    direct_store (operation.Give src) h d = store_direct_leaves r m whole bank small src emulated (wide (operation.Give src)) skew (row_is _ _ _ (store_first src skew) d)
     direct_store operation.Plain h d = absurd (false_true h)
     direct_store (operation.Read k g) h d = absurd (false_true h)
     direct_store (operation.Take g) h d = absurd (false_true h)
@@ -235,17 +223,19 @@ module _ (r : Record) (m : List ℕ) (whole : length m ≡ size) (well : well_fo
     direct_store (operation.Flag f) h d = absurd (false_true h)
 
     absolute_store : (o : Operation) → is_give o ≡ true → decode_of op ≡ Some (StoreAbsolute, o) → (i : Bool) → inside r m (operand r m) ≡ i → Stride op (Some (StoreAbsolute, o))
-    absolute_store (operation.Give src) h d true i =
-        let w : Bool = wide (operation.Give src) in
+    absolute_store (operation.Give src) h d t i =
         subst
-        (λ (t : Bool). (pick t (4 + bit w) 0 ≡ 0 → ⊥)
-        → let k : List ℕ = pick (eqb (pick t (4 + bit w) 0) 0) m (placed w (operand r m) (source_of src (regs_of r) r.pbr r.dbr) m) in
-        Leaves (pick t (4 + bit w) 0) r m (arrived op (storing r m (spot_of r m mode.Absolute w))) k (lines_by track.StoreAbsolute (pick t (4 + bit w) 0) k))
-        (sym i)
-        (λ _. subst (λ (k : List ℕ). Leaves (4 + bit w) r m (arrived op (storing r m (spot_of r m mode.Absolute w))) k (lines_by track.StoreAbsolute (4 + bit w) k))
-        (sym (absolute_count w m _))
-        (store_absolute_leaves r m whole bank small src emulated (in_bank_0 i) (in_room i) w skew (row_is _ _ _ refl d)))
-    absolute_store (operation.Give src) h d false i = λ n. absurd (n (rw i))
+        (λ (t : Bool). let p : Option Spot = pick t (Some (absolute_spot r m (wide (operation.Give src)))) None in
+        IfSome (stored_at r m p) (λ l. Leaves l.cycles r m (arrived op l) (mem_at r m p (wide (operation.Give src)) (source_of src (regs_of r) r.pbr r.dbr))
+        (lines_by track.StoreAbsolute l.cycles (mem_at r m p (wide (operation.Give src)) (source_of src (regs_of r) r.pbr r.dbr)))))
+        (sym i) (by_inside t i)
+      where
+        by_inside : (t : Bool) → inside r m (operand r m) ≡ t
+            → let p : Option Spot = pick t (Some (absolute_spot r m (wide (operation.Give src)))) None in
+            IfSome (stored_at r m p) (λ l. Leaves l.cycles r m (arrived op l) (mem_at r m p (wide (operation.Give src)) (source_of src (regs_of r) r.pbr r.dbr))
+            (lines_by track.StoreAbsolute l.cycles (mem_at r m p (wide (operation.Give src)) (source_of src (regs_of r) r.pbr r.dbr))))
+        by_inside true i = store_absolute_leaves r m whole bank small src emulated (in_bank_0 i) (in_room i) (wide (operation.Give src)) skew (row_is _ _ _ refl d)
+        by_inside false i = tt
     absolute_store operation.Plain h d t i = absurd (false_true h)
     absolute_store (operation.Read k g) h d t i = absurd (false_true h)
     absolute_store (operation.Take g) h d t i = absurd (false_true h)
@@ -254,62 +244,65 @@ module _ (r : Record) (m : List ℕ) (whole : length m ≡ size) (well : well_fo
     absolute_store (operation.Flag f) h d t i = absurd (false_true h)
 
     by_shape : (q : Option (Shape × Operation)) → decode_of op ≡ q → Stride op q
-    by_shape None d = λ n. absurd (n refl)
+    by_shape None d = tt
     by_shape (Some (Immediate, o)) d = immediate_read o (decoded_suits op Immediate o d) d
     by_shape (Some (Absolute, o)) d = absolute_read o (decoded_suits op Absolute o d) d (inside r m (operand r m)) refl
     by_shape (Some (Direct, o)) d = direct_read o (decoded_suits op Direct o d) d
     by_shape (Some (StoreAbsolute, o)) d = absolute_store o (decoded_suits op StoreAbsolute o d) d (inside r m (operand r m)) refl
     by_shape (Some (StoreDirect, o)) d = direct_store o (decoded_suits op StoreDirect o d) d
-    by_shape (Some (Implied, o)) d = λ _. do_leaves r m whole bank small o (wide o) skew emulated (row_is _ _ _ refl d)
-    by_shape (Some (Xba, o)) d = λ n. absurd (n refl)
-    by_shape (Some (Mask, o)) d = λ n. absurd (n refl)
-    by_shape (Some (Wdm, o)) d = λ n. absurd (n refl)
-    by_shape (Some (Push, o)) d = λ n. absurd (n refl)
-    by_shape (Some (Pull, o)) d = λ n. absurd (n refl)
-    by_shape (Some (PullP, o)) d = λ n. absurd (n refl)
-    by_shape (Some (PullB, o)) d = λ n. absurd (n refl)
-    by_shape (Some (PullD, o)) d = λ n. absurd (n refl)
-    by_shape (Some (Pea, o)) d = λ n. absurd (n refl)
-    by_shape (Some (Pei, o)) d = λ n. absurd (n refl)
-    by_shape (Some (Per, o)) d = λ n. absurd (n refl)
-    by_shape (Some (Jump, o)) d = λ _. jump_leaves r m whole bank small o (wide o) skew emulated (row_is _ _ _ refl d)
-    by_shape (Some (JumpLong, o)) d = λ n. absurd (n refl)
-    by_shape (Some (JumpIndirect, o)) d = λ n. absurd (n refl)
-    by_shape (Some (JumpIndirectLong, o)) d = λ n. absurd (n refl)
-    by_shape (Some (JumpIndexed, o)) d = λ n. absurd (n refl)
-    by_shape (Some (Call, o)) d = λ n. absurd (n refl)
-    by_shape (Some (CallIndexed, o)) d = λ n. absurd (n refl)
-    by_shape (Some (CallLong, o)) d = λ n. absurd (n refl)
-    by_shape (Some (Return, o)) d = λ n. absurd (n refl)
-    by_shape (Some (ReturnLong, o)) d = λ n. absurd (n refl)
+    by_shape (Some (Implied, o)) d = do_leaves r m whole bank small o (wide o) skew emulated (row_is _ _ _ refl d)
+    by_shape (Some (Xba, o)) d = tt
+    by_shape (Some (Mask, o)) d = tt
+    by_shape (Some (Wdm, o)) d = tt
+    by_shape (Some (Push, o)) d = tt
+    by_shape (Some (Pull, o)) d = tt
+    by_shape (Some (PullP, o)) d = tt
+    by_shape (Some (PullB, o)) d = tt
+    by_shape (Some (PullD, o)) d = tt
+    by_shape (Some (Pea, o)) d = tt
+    by_shape (Some (Pei, o)) d = tt
+    by_shape (Some (Per, o)) d = tt
+    by_shape (Some (Jump, o)) d = jump_leaves r m whole bank small o (wide o) skew emulated (row_is _ _ _ refl d)
+    by_shape (Some (JumpLong, o)) d = tt
+    by_shape (Some (JumpIndirect, o)) d = tt
+    by_shape (Some (JumpIndirectLong, o)) d = tt
+    by_shape (Some (JumpIndexed, o)) d = tt
+    by_shape (Some (Call, o)) d = tt
+    by_shape (Some (CallIndexed, o)) d = tt
+    by_shape (Some (CallLong, o)) d = tt
+    by_shape (Some (Return, o)) d = tt
+    by_shape (Some (ReturnLong, o)) d = tt
     by_shape (Some (Branch, o)) d =
         subst
-        (λ (t : Bool). ((branching r m t).cycles ≡ 0 → ⊥)
-        → Leaves (branching r m t).cycles r m (arrived op (branching r m t)) m (lines_by track.Branch (branching r m t).cycles m))
+        (λ (t : Bool). Leaves (branching r m t).cycles r m (arrived op (branching r m t)) m (lines_by track.Branch (branching r m t).cycles m))
         (sym (goes_holds (cond_in o) r.flags))
-        (λ _. branch_leaves r m whole bank small o (wide o) skew (row_is _ _ _ refl d))
-    by_shape (Some (BranchLong, o)) d = λ n. absurd (n refl)
-    by_shape (Some (Move, o)) d = λ n. absurd (n refl)
+        (branch_leaves r m whole bank small o (wide o) skew (row_is _ _ _ refl d))
+    by_shape (Some (BranchLong, o)) d = tt
+    by_shape (Some (Move, o)) d = tt
 
   -- A stride from a fresh record comes to what so many cycles come to, and these are their lines.
-  pub leg_leaves : r.held ≡ false → ((leg_of r m).cycles ≡ 0 → ⊥)
-      → Leaves (leg_of r m).cycles r m (arrived (opcode r m) (leg_of r m)) (mem_of r m) (stride_lines r m (mem_of r m) (leg_of r m).cycles)
+  pub leg_leaves : r.held ≡ false
+      → IfSome (leg_of r m) (λ l. Leaves l.cycles r m (arrived (opcode r m) l) (mem_of r m) (stride_lines r m (mem_of r m) l.cycles))
   unfolding quick_of track_of
   leg_leaves h = by_shape h (decode_of op) refl
 
 -- ---- the code's answer
 module _ (r : Record) (m : List ℕ) where
-  -- without a cycle nothing is stored
-  still : (q : Quick) → (leg_by r m q).cycles ≡ 0 → mem_by r m q ≡ m
+  -- without a leg nothing is stored
+  still_at : (t : Option Spot) (w : Bool) (v : ℕ) → stored_at r m t ≡ None → mem_at r m t w v ≡ m
+  still_at None w v h = refl
+  still_at (Some t) w v h = cc
+
+  still : (q : Quick) → leg_by r m q ≡ None → mem_by r m q ≡ m
   still quick.Slow h = refl
   still (quick.Read mode k g) h = refl
-  still (quick.Store mode o) h = rw h
+  still (quick.Store mode o) h = still_at (spot_of r m mode _) _ _ h
   still (quick.Do k) h = refl
   still (quick.If k want) h = refl
   still quick.Jump h = refl
 
   -- no instruction here is longer than seven cycles
-  spot_short : (k : Mode) (w : Bool) → (spot_of r m k w).cycles < 8
+  spot_short : (k : Mode) (w : Bool) → IfSome (spot_of r m k w) (λ t. t.cycles < 8)
   spot_short mode.Immediate true = omega arith
   spot_short mode.Immediate false = omega arith
   spot_short mode.Direct w = two w skew'
@@ -324,20 +317,28 @@ module _ (r : Record) (m : List ℕ) where
       two false false = omega arith
   spot_short mode.Absolute w = two (inside r m (operand r m)) w
     where
-      two : (a b : Bool) → pick a (4 + bit b) 0 < 8
+      two : (a b : Bool) → IfSome (pick a (Some (absolute_spot r m b)) None) (λ t. t.cycles < 8)
       two true true = omega arith
       two true false = omega arith
-      two false b = omega arith
+      two false b = tt
+
+  read_short : (t : Option Spot) (k : Alu) (g : Reg) (w : Bool) → IfSome t (λ t. t.cycles < 8) → IfSome (read_at r m t k g w) (λ l. l.cycles < 8)
+  read_short None k g w h = tt
+  read_short (Some t) k g w h = h
+
+  store_short : (t : Option Spot) → IfSome t (λ t. t.cycles < 8) → IfSome (stored_at r m t) (λ l. l.cycles < 8)
+  store_short None h = tt
+  store_short (Some t) h = h
 
   branch_short : (t p : Bool) → pick t (3 + bit p) 2 < 8
   branch_short true true = omega arith
   branch_short true false = omega arith
   branch_short false p = omega arith
 
-  short : (q : Quick) → (leg_by r m q).cycles < 8
-  short quick.Slow = omega arith
-  short (quick.Read k o g) = spot_short k _
-  short (quick.Store k o) = spot_short k _
+  short : (q : Quick) → IfSome (leg_by r m q) (λ l. l.cycles < 8)
+  short quick.Slow = tt
+  short (quick.Read k o g) = read_short _ o g _ (spot_short k _)
+  short (quick.Store k o) = store_short _ (spot_short k _)
   short (quick.Do k) = omega arith
   short (quick.If k want) =
       branch_short (goes k want r.flags) (r.flags.emulation && not (same_page (up r.pc 2) (displaced (up r.pc 2) (low_of (there r m (up r.pc 1))))))
@@ -358,8 +359,8 @@ module _ (r : Record) (m : List ℕ) (whole : length m ≡ size) (well : well_fo
   unheld = not_held r.held (and_right (eqb r.pbr 0) (not r.held) first_half)
 
   -- by whether there is a leg
-  abbrev answer : Bool → Stretch
-  answer z = pick z (stretch 0 r) (stretch (leg_of r m).cycles (arrived (opcode r m) (leg_of r m)))
+  abbrev answer : Option Leg → Stretch
+  answer l = strode_by r (opcode r m) l
 
   abbrev Answered : Stretch → List ℕ → Type 0
   Answered t k = Goes r m t k × ((t.cycles < 8) × (fresh t.after ≡ true))
@@ -369,19 +370,20 @@ module _ (r : Record) (m : List ℕ) (whole : length m ≡ size) (well : well_fo
   unfolding ended
   fresh_again i p s d g = refl
 
-  answered_by_lem : (z : Bool) → eqb (leg_of r m).cycles 0 ≡ z → Answered (answer z) (mem_of r m)
-  answered_by_lem true e =
-      let s : mem_of r m ≡ m = still r m (quick_of (opcode r m)) (eqb-true _ _ e) in
+  answered_by_lem : (o : Option Leg) → leg_of r m ≡ o → Answered (answer o) (mem_of r m)
+  answered_by_lem None e =
+      let s : mem_of r m ≡ m = still r m (quick_of (opcode r m)) e in
       ((subst (Passes 0 r m r) (sym s) (passes_none r m), well), (omega arith, start), λ n. absurd (n refl))
-  answered_by_lem false e =
-      let l : Leaves (leg_of r m).cycles r m (arrived (opcode r m) (leg_of r m)) (mem_of r m) (stride_lines r m (mem_of r m) (leg_of r m).cycles) =
-      leg_leaves r m whole well bank_0 small unheld (eqb-false _ _ e) in (
-        (l.passes, well_ended _ _ _ _ _ _ _),
-        (short r m (quick_of (opcode r m)), fresh_again _ _ _ _ _),
-        λ _. l.lines,
+  answered_by_lem (Some l) e =
+      let v : Leaves l.cycles r m (arrived (opcode r m) l) (mem_of r m) (stride_lines r m (mem_of r m) l.cycles) =
+      subst (λ (o : Option Leg). IfSome o (λ l. Leaves l.cycles r m (arrived (opcode r m) l) (mem_of r m) (stride_lines r m (mem_of r m) l.cycles))) e
+      (leg_leaves r m whole well bank_0 small unheld) in (
+        (v.passes, well_ended _ _ _ _ _ _ _),
+        (subst (λ (o : Option Leg). IfSome o (λ l. l.cycles < 8)) e (short r m (quick_of (opcode r m))), fresh_again _ _ _ _ _),
+        λ _. v.lines,
       )
 
-  stride_is : stride_of r m ≡ answer (eqb (leg_of r m).cycles 0)
+  stride_is : stride_of r m ≡ answer (leg_of r m)
   unfolding stride_of
   stride_is = rw (eq-eqb _ _ whole)
 
@@ -392,7 +394,7 @@ module _ (r : Record) (m : List ℕ) (whole : length m ≡ size) (well : well_fo
   pub stride_goes : (t : Stretch) (k : List ℕ) → (t ≡ stride_of r m) × (k ≡ stride_mem r m) → Answered t k
   stride_goes t k e =
       subst (λ (v : Stretch). Answered v k) (sym (e.0 ∙ stride_is))
-      (subst (Answered (answer (eqb (leg_of r m).cycles 0))) (sym (e.1 ∙ mem_is)) (answered_by_lem (eqb (leg_of r m).cycles 0) refl))
+      (subst (Answered (answer (leg_of r m))) (sym (e.1 ∙ mem_is)) (answered_by_lem (leg_of r m) refl))
 
 -- ---- a byte of a move that is under way
 module _ (r : Record) (m : List ℕ) (whole : length m ≡ size) (well : well_formed r ≡ true) (small : r.pc < 65536) (x-small : r.x < 65536)

@@ -29,7 +29,7 @@ use Rattle.sheet.specs.Run.{Ran, run}
 use Rattle.sheet.specs.Sheet.{sheet, O, P, I, when}
 use Rattle.sheet.proofs.Demand2.{instead}
 use Rattle.run.specs.Runs.{size}
-use Rattle.stride.specs.Strides.{there, operand, spot_of, reading, storing, branching, placed, kept, leg, arrived}
+use Rattle.stride.specs.Strides.{there, operand, immediate_spot, direct_spot, absolute_spot, reading, storing, branching, placed, kept, leg, arrived}
 use Rattle.haul.specs.Hauls.{hauled, carried}
 use Rattle.tracks.specs.Tracks.{reads, writes, track_lines, haul_lines}
 use Rattle.tracks.specs.declared.types.Track.TheVariants.{Inside, Program, Branch, ReadDirect, StoreDirect, ReadAbsolute, StoreAbsolute}
@@ -139,7 +139,7 @@ module _ (r : Record) (m : List ℕ) (whole : length m ≡ size) (bank : r.pbr �
     immediate_bus = heard (op ∷ b₁ ∷ b₂ ∷ [])
 
     pub immediate_leaves : (w d : Bool) → run 8 immediate_bus r ≡ sheet r immediate_bus shape.Immediate read w d e
-        → Leaves (2 + bit w) r m (arrived op (reading r m (spot_of r m Immediate w) k g w)) m (track_lines Program d op b₁ b₂ r.pc (operand r m) (2 + bit w) m)
+        → Leaves (2 + bit w) r m (arrived op (reading r m (immediate_spot r m w) k g w)) m (track_lines Program d op b₁ b₂ r.pc (operand r m) (2 + bit w) m)
     immediate_leaves true d h =
         leaves_row immediate_bus _ _ _ h (in_bank _ _ _)
         (fetched_inside _ small, fetched _, (fetched_inside _ (inc_small _), fetched _, (fetched_inside _ (inc_small _), fetched _, tt)))
@@ -158,7 +158,7 @@ module _ (r : Record) (m : List ℕ) (whole : length m ≡ size) (bank : r.pbr �
     direct_bus false = heard (op ∷ b₁ ∷ there r m q ∷ there r m (inc q) ∷ [])
 
     pub direct_leaves : (w d : Bool) → run 8 (direct_bus d) r ≡ sheet r (direct_bus d) shape.Direct read w d e
-        → Leaves (3 + bit w + bit d) r m (arrived op (reading r m (spot_of r m Direct w) k g w)) m (track_lines ReadDirect d op b₁ b₂ r.pc q (3 + bit w + bit d) m)
+        → Leaves (3 + bit w + bit d) r m (arrived op (reading r m (direct_spot r m w) k g w)) m (track_lines ReadDirect d op b₁ b₂ r.pc q (3 + bit w + bit d) m)
     direct_leaves true true h =
         leaves_row (direct_bus true) _ _ _ h (in_bank _ _ _) (
           fetched_inside _ small,
@@ -229,7 +229,7 @@ module _ (r : Record) (m : List ℕ) (whole : length m ≡ size) (bank : r.pbr �
       absolute_bus = heard (op ∷ b₁ ∷ b₂ ∷ there r m (operand r m) ∷ there r m (inc (operand r m)) ∷ [])
 
       pub absolute_leaves : (w d : Bool) → run 8 absolute_bus r ≡ sheet r absolute_bus shape.Absolute read w d e
-          → Leaves (4 + bit w) r m (arrived op (reading r m (spot_of r m Absolute w) k g w)) m
+          → Leaves (4 + bit w) r m (arrived op (reading r m (absolute_spot r m w) k g w)) m
           (track_lines ReadAbsolute d op b₁ b₂ r.pc (operand r m) (4 + bit w) m)
       absolute_leaves true d h =
           leaves_row absolute_bus _ _ _ h (in_bank _ _ _) (
@@ -274,7 +274,7 @@ module _ (r : Record) (m : List ℕ) (whole : length m ≡ size) (bank : r.pbr �
     store_bus false = heard (op ∷ b₁ ∷ low_of value ∷ high_of value ∷ [])
 
     pub store_direct_leaves : (w d : Bool) → run 8 (store_bus d) r ≡ sheet r (store_bus d) shape.StoreDirect give w d e
-        → Leaves (3 + bit w + bit d) r m (arrived op (storing r m (spot_of r m Direct w))) (placed w spot_direct value m)
+        → Leaves (3 + bit w + bit d) r m (arrived op (storing r m (direct_spot r m w))) (placed w spot_direct value m)
         (track_lines StoreDirect d op b₁ b₂ r.pc spot_direct (3 + bit w + bit d) (placed w spot_direct value m))
     store_direct_leaves true true h =
         leaves_to (store_bus true) _ _ _ _ h (in_bank _ _ _) (
@@ -346,7 +346,7 @@ module _ (r : Record) (m : List ℕ) (whole : length m ≡ size) (bank : r.pbr �
       far_bus = heard (op ∷ b₁ ∷ b₂ ∷ low_of value ∷ high_of value ∷ [])
 
       pub store_absolute_leaves : (w d : Bool) → run 8 far_bus r ≡ sheet r far_bus shape.StoreAbsolute give w d e
-          → Leaves (4 + bit w) r m (arrived op (storing r m (spot_of r m Absolute w))) (placed w (operand r m) value m)
+          → Leaves (4 + bit w) r m (arrived op (storing r m (absolute_spot r m w))) (placed w (operand r m) value m)
           (track_lines StoreAbsolute d op b₁ b₂ r.pc (operand r m) (4 + bit w) (placed w (operand r m) value m))
       store_absolute_leaves true d h =
           leaves_to far_bus _ _ _ _ h (in_bank _ _ _) (

@@ -12,27 +12,14 @@ use packed::bytes::{pack, put, unpack};
 use session::session::{answered, asking};
 use session::types::Session;
 
-// A count with one more byte below it.
-fn longer(n: u64, b: u8) -> u64
-    requires { n < 72057594037927936 }
-    ensures value { result ≡ b + 256 * n }
-    ensures small { result ≤ 255 + 256 * n }
-{
-    (b as u64) + 256 * n
-}
-
+#[tactic(auto, unfolding(crate::specs::Port::count_at))]
 fn count_at(bytes: &[u8]) -> u64
     requires { length bytes.now ≡ 40 }
     ensures { result ≡ count_at bytes.now }
 {
-    let n = longer(0, bytes[39]);
-    let n = longer(n, bytes[38]);
-    let n = longer(n, bytes[37]);
-    let n = longer(n, bytes[36]);
-    let n = longer(n, bytes[35]);
-    let n = longer(n, bytes[34]);
-    let n = longer(n, bytes[33]);
-    longer(n, bytes[32])
+    u64::from_le_bytes([
+        bytes[32], bytes[33], bytes[34], bytes[35], bytes[36], bytes[37], bytes[38], bytes[39],
+    ])
 }
 
 fn count_bytes(n: u64) -> [u8; 8]
@@ -53,10 +40,7 @@ fn count_bytes(n: u64) -> [u8; 8]
 fn session_at(at: Record, cycles: u64) -> Session
     ensures { result ≡ session_at at cycles }
 {
-    Session {
-        at: at,
-        cycles: cycles,
-    }
+    Session { at, cycles }
 }
 
 // The session of some bytes, if they are one.

@@ -1,5 +1,5 @@
 -- Whole instructions at a time: what a quick one comes to over a memory of 65,536 bytes, from a record in bank 0 at an instruction's start. Laws beside the proofs say that its cycles come to the same, one after the other.
-use Rattle.std.specs.Prelude.{ℕ, ◌+◌, Bool, true, false, not, ◌&&◌, List, eqb, ltb, length, get_or, set}
+use Rattle.std.specs.Prelude.{ℕ, ◌+◌, Bool, true, false, not, ◌&&◌, List, eqb, ltb, length, get_or, set, Option, Some, None}
 use Rattle.words.specs.Words.{pick, bit, low_of, high_of, word, inc, up, sum16, displaced, same_page}
 use Rattle.alu.specs.declared.types.Alu.{Alu}
 use Rattle.cpu.specs.Registers.{applied, stack_of, wide_reg}
@@ -76,10 +76,20 @@ module _ (r : Record) (m : List ℕ) where
   abbrev pub inside : ℕ → Bool
   inside p = eqb r.dbr 0 && ltb p 65535
 
-  abbrev pub spot_of : Mode → (wide : Bool) → Spot
-  spot_of Immediate w = spot (up r.pc 1) (2 + bit w) (pick w (up r.pc 3) (up r.pc 2))
-  spot_of Direct w = spot (sum16 r.d (there (up r.pc 1))) (3 + bit w + bit (unaligned r.d)) (up r.pc 2)
-  spot_of Absolute w = spot operand (pick (inside operand) (4 + bit w) 0) (up r.pc 3)
+  abbrev pub immediate_spot : (wide : Bool) → Spot
+  immediate_spot w = spot (up r.pc 1) (2 + bit w) (pick w (up r.pc 3) (up r.pc 2))
+
+  abbrev pub direct_spot : (wide : Bool) → Spot
+  direct_spot w = spot (sum16 r.d (there (up r.pc 1))) (3 + bit w + bit (unaligned r.d)) (up r.pc 2)
+
+  abbrev pub absolute_spot : (wide : Bool) → Spot
+  absolute_spot w = spot operand (4 + bit w) (up r.pc 3)
+
+  -- none where the operand lies outside
+  abbrev pub spot_of : Mode → (wide : Bool) → Option Spot
+  spot_of Immediate w = Some (immediate_spot w)
+  spot_of Direct w = Some (direct_spot w)
+  spot_of Absolute w = pick (inside operand) (Some (absolute_spot w)) None
 
   abbrev pub reading : Spot → Alu → Reg → (wide : Bool) → Leg
   reading t k g w = leg t.cycles t.pc r.s r.dbr (effected k g w (there t.place) (there (inc t.place)) (regs_of r))
@@ -93,24 +103,38 @@ module _ (r : Record) (m : List ℕ) where
       let to : ℕ = displaced past (low_of (there (up r.pc 1))) in
       kept (pick taken (3 + bit (r.flags.emulation && not (same_page past to))) 2) (pick taken to past) r
 
-  abbrev pub leg_by : Quick → Leg
-  leg_by Slow = kept 0 r.pc r
-  leg_by (Read mode k g) = let w : Bool = wide_reg g r.flags.memsel r.flags.indexsel in reading (spot_of mode w) k g w
-  leg_by (Store mode o) = storing (spot_of mode (wide_source o r.flags.memsel r.flags.indexsel))
-  leg_by (Do k) = leg 2 (up r.pc 1) (stack_of k r.s (regs_of r)) r.dbr (applied k r.s (regs_of r))
-  leg_by (If k want) = branching (goes k want r.flags)
-  leg_by Jump = kept 3 operand r
+  -- where there is a spot
+  abbrev pub read_at : Option Spot → Alu → Reg → (wide : Bool) → Option Leg
+  read_at None k g w = None
+  read_at (Some t) k g w = Some (reading t k g w)
 
-  abbrev pub leg_of : Leg
+  abbrev pub stored_at : Option Spot → Option Leg
+  stored_at None = None
+  stored_at (Some t) = Some (storing t)
+
+  -- none where the instruction isn't a quick one, or leaves the memory
+  abbrev pub leg_by : Quick → Option Leg
+  leg_by Slow = None
+  leg_by (Read mode k g) = let w : Bool = wide_reg g r.flags.memsel r.flags.indexsel in read_at (spot_of mode w) k g w
+  leg_by (Store mode o) = stored_at (spot_of mode (wide_source o r.flags.memsel r.flags.indexsel))
+  leg_by (Do k) = Some (leg 2 (up r.pc 1) (stack_of k r.s (regs_of r)) r.dbr (applied k r.s (regs_of r)))
+  leg_by (If k want) = Some (branching (goes k want r.flags))
+  leg_by Jump = Some (kept 3 operand r)
+
+  abbrev pub leg_of : Option Leg
   leg_of = leg_by (quick_of opcode)
 
   -- the memory after it
+  abbrev pub mem_at : Option Spot → (wide : Bool) → (v : ℕ) → List ℕ
+  mem_at None w v = m
+  mem_at (Some t) w v = placed w t.place v m
+
   abbrev pub mem_by : Quick → List ℕ
   mem_by Slow = m
   mem_by (Read mode k g) = m
   mem_by (Store mode o) =
       let w : Bool = wide_source o r.flags.memsel r.flags.indexsel in
-      pick (eqb (spot_of mode w).cycles 0) m (placed w (spot_of mode w).place (source_of o (regs_of r) r.pbr r.dbr) m)
+      mem_at (spot_of mode w) w (source_of o (regs_of r) r.pbr r.dbr)
   mem_by (Do k) = m
   mem_by (If k want) = m
   mem_by Jump = m
@@ -130,8 +154,9 @@ stretch n r = record { cycles = n; after = r }
 abbrev pub whole : List ℕ → Bool
 whole m = eqb (length m) 65536
 
-abbrev pub strode_by : Record → (op : ℕ) → Leg → Stretch
-strode_by r op l = pick (eqb l.cycles 0) (stretch 0 r) (stretch l.cycles (arrived op l))
+abbrev pub strode_by : Record → (op : ℕ) → Option Leg → Stretch
+strode_by r op None = stretch 0 r
+strode_by r op (Some l) = stretch l.cycles (arrived op l)
 
 unfoldable pub stride_of : Record → List ℕ → Stretch
 stride_of r m = pick (whole m) (strode_by r (opcode r m) (leg_of r m)) (stretch 0 r)

@@ -5,8 +5,8 @@ ghost use Rattle.cpu.specs.Registers.{applied, stack_of};
 ghost use Rattle.cpu.specs.Record.{regs_of};
 ghost use Rattle.cycles.specs.Cycles.{unaligned};
 ghost use Rattle.quick.specs.Quick.{goes};
-ghost use Rattle.quick.specs.declared.types.Quick.TheVariants.{Read, Store, If, Jump};
-ghost use Rattle.stride.specs.Strides.{fresh, cleared_of, spot, leg, kept, placed, opcode, spot_of, leg_by, mem_by, leg_of, mem_of, arrived, stretch, strode_by, stride_of, stride_mem};
+ghost use Rattle.quick.specs.declared.types.Quick.TheVariants.{Read, Store};
+ghost use Rattle.stride.specs.Strides.{fresh, cleared_of, spot, leg, kept, placed, opcode, operand, branching, spot_of, leg_by, mem_by, leg_of, mem_of, stretch, strode_by, stride_of, stride_mem};
 
 use crate::types::{Leg, Spot, Stretch};
 use alu::types::Alu;
@@ -86,32 +86,36 @@ fn is_inside(dbr: u8, p: u16) -> bool
     both(dbr == 0, p < 65535)
 }
 
-fn absolute(wide: bool, pc: u16, dbr: u8, p: u16) -> Spot
-    ensures { result ≡ spot p (pick (eqb dbr 0 && ltb p 65535) (4 + bit wide) 0) (inc (inc (inc pc))) }
+fn absolute(wide: bool, pc: u16, dbr: u8, p: u16) -> Option<Spot>
+    ensures { result ≡ pick (eqb dbr 0 && ltb p 65535) (Some (spot p (4 + bit wide) (inc (inc (inc pc))))) None }
 {
-    Spot {
-        place: p,
-        cycles: choose(is_inside(dbr, p), 4 + one_if(wide), 0),
-        pc: up(up(up(pc))),
+    if !is_inside(dbr, p) {
+        return None;
     }
+    Some(Spot {
+        place: p,
+        cycles: 4 + one_if(wide),
+        pc: up(up(up(pc))),
+    })
 }
 
-fn spot_of(mode: Mode, wide: bool, r: Record, mem: &[u8; 65536]) -> Spot
+// An operand's spot; none where it lies outside the memory.
+fn spot_of(mode: Mode, wide: bool, r: Record, mem: &[u8; 65536]) -> Option<Spot>
     ensures { result ≡ spot_of r mem.now mode wide }
 {
     match mode {
-        Mode::Immediate => immediate(wide, r.pc),
-        Mode::Direct => direct(wide, r.pc, r.d, peek(mem, up(r.pc))),
+        Mode::Immediate => Some(immediate(wide, r.pc)),
+        Mode::Direct => Some(direct(wide, r.pc, r.d, peek(mem, up(r.pc)))),
         Mode::Absolute => absolute(wide, r.pc, r.dbr, peek_word(mem, up(r.pc))),
     }
 }
 
-fn read(mode: Mode, k: Alu, g: Reg, r: Record, mem: &[u8; 65536]) -> Leg
+fn read(mode: Mode, k: Alu, g: Reg, r: Record, mem: &[u8; 65536]) -> Option<Leg>
     ensures { result ≡ leg_by r mem.now (Read mode k g) }
 {
     let f = r.flags;
     let wide = is_wide(g, f.memsel, f.indexsel);
-    let t = spot_of(mode, wide, r, mem);
+    let t = spot_of(mode, wide, r, mem)?;
     let after = worked(
         k,
         g,
@@ -120,13 +124,13 @@ fn read(mode: Mode, k: Alu, g: Reg, r: Record, mem: &[u8; 65536]) -> Leg
         peek(mem, up(t.place)),
         regs(r),
     );
-    Leg {
+    Some(Leg {
         cycles: t.cycles,
         pc: t.pc,
         s: r.s,
         dbr: r.dbr,
         regs: after,
-    }
+    })
 }
 
 fn poke(wide: bool, p: u16, v: u16, mem: &mut [u8; 65536])
@@ -138,29 +142,14 @@ fn poke(wide: bool, p: u16, v: u16, mem: &mut [u8; 65536])
     }
 }
 
-// What isn't done in any cycle changes nothing.
-fn poke_in(cycles: u8, wide: bool, p: u16, v: u16, mem: &mut [u8; 65536])
-    ensures { mem.new ≡ pick (eqb cycles 0) mem.old (placed wide p v mem.old) }
-{
-    if cycles != 0 {
-        poke(wide, p, v, mem)
-    }
-}
-
-fn store(mode: Mode, k: Source, r: Record, mem: &mut [u8; 65536]) -> Leg
+fn store(mode: Mode, k: Source, r: Record, mem: &mut [u8; 65536]) -> Option<Leg>
     ensures { (result ≡ leg_by r mem.old (Store mode k)) × (mem.new ≡ mem_by r mem.old (Store mode k)) }
 {
     let f = r.flags;
     let wide = is_wide_source(k, f.memsel, f.indexsel);
-    let t = spot_of(mode, wide, r, mem);
-    poke_in(
-        t.cycles,
-        wide,
-        t.place,
-        source(k, regs(r), r.pbr, r.dbr),
-        mem,
-    );
-    kept(t.cycles, t.pc, r)
+    let t = spot_of(mode, wide, r, mem)?;
+    poke(wide, t.place, source(k, regs(r), r.pbr, r.dbr), mem);
+    Some(kept(t.cycles, t.pc, r))
 }
 
 // A leg that changes no register.
@@ -208,7 +197,7 @@ fn is_taken(k: Test, want: bool, f: Flags) -> bool
 }
 
 fn branch(k: Test, want: bool, r: Record, mem: &[u8; 65536]) -> Leg
-    ensures { result ≡ leg_by r mem.now (If k want) }
+    ensures { result ≡ branching r mem.now (goes k want r.flags) }
 {
     let f = r.flags;
     let past = up(up(r.pc));
@@ -219,35 +208,35 @@ fn branch(k: Test, want: bool, r: Record, mem: &[u8; 65536]) -> Leg
 }
 
 fn jump(r: Record, mem: &[u8; 65536]) -> Leg
-    ensures { result ≡ leg_by r mem.now Jump }
+    ensures { result ≡ leg 3 (operand r mem.now) r.s r.dbr (regs_of r) }
 {
     kept(3, peek_word(mem, up(r.pc)), r)
 }
 
-fn leg_of(q: Quick, r: Record, mem: &mut [u8; 65536]) -> Leg
+// What a quick instruction comes to; none where it isn't one, or leaves the memory.
+fn leg_of(q: Quick, r: Record, mem: &mut [u8; 65536]) -> Option<Leg>
     ensures { (result ≡ leg_by r mem.old q) × (mem.new ≡ mem_by r mem.old q) }
 {
     match q {
-        Quick::Slow => kept(0, r.pc, r),
+        Quick::Slow => None,
         Quick::Read(mode, k, g) => read(mode, k, g, r, mem),
         Quick::Store(mode, k) => store(mode, k, r, mem),
-        Quick::Do(k) => one(k, r),
-        Quick::If(k, want) => branch(k, want, r, mem),
-        Quick::Jump => jump(r, mem),
+        Quick::Do(k) => Some(one(k, r)),
+        Quick::If(k, want) => Some(branch(k, want, r, mem)),
+        Quick::Jump => Some(jump(r, mem)),
     }
 }
 
-fn arrive(op: u8, r: Record, l: Leg) -> Stretch
-    ensures { result ≡ pick (eqb l.cycles 0) (stretch 0 r) (stretch l.cycles (arrived op l)) }
+fn arrive(op: u8, r: Record, l: Option<Leg>) -> Stretch
+    ensures { result ≡ strode_by r op l }
 {
-    if l.cycles == 0 {
-        stretch_of(0, r)
-    } else {
-        stretch_of(
-            l.cycles as u32,
-            finished(op, false, 0, l.pc, l.s, l.dbr, l.regs),
-        )
-    }
+    let Some(l) = l else {
+        return stretch_of(0, r);
+    };
+    stretch_of(
+        l.cycles as u32,
+        finished(op, false, 0, l.pc, l.s, l.dbr, l.regs),
+    )
 }
 
 // So many cycles at a stretch, and the record after them.

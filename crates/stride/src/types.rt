@@ -1,7 +1,7 @@
 // What a whole instruction comes to.
 use cpu::types::{Record, Regs};
 
-// An operand's place, the instruction's cycles, 0 where it lies outside the memory, and the program counter after it.
+// An operand's place inside the memory, the instruction's cycles, and the program counter after it.
 #[derive(Clone, Copy)]
 pub struct Spot {
     pub place: u16,
@@ -9,7 +9,7 @@ pub struct Spot {
     pub pc: u16,
 }
 
-// The cycles, 0 where the instruction isn't a quick one or leaves the memory; what is left of it, but the memory.
+// A quick instruction that stays inside the memory: its cycles, and what is left of it, but the memory.
 #[derive(Clone, Copy)]
 pub struct Leg {
     pub cycles: u8,
@@ -19,7 +19,7 @@ pub struct Leg {
     pub regs: Regs,
 }
 
-// How many cycles of whole instructions were done, and the record after them.
+// How many cycles of whole instructions were done, and the record after them. None done is a true count: the record is then as it was.
 #[derive(Clone, Copy)]
 pub struct Stretch {
     pub cycles: u32,

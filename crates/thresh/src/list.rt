@@ -20,7 +20,8 @@ pub struct List<'a, O: Print, E: Print + IsTerminal> {
     out: &'a O,
     err: &'a E,
     tally: Tally,
-    // One byte more than a line may have: a line that fills it is too long, and what follows is dropped.
+    // One byte more than a line may have: a line that fills it is too long, and what follows is dropped. How much of it has come stands in the
+    // tally, whose definition in crates/lines has it (`tallied`).
     room: [u8; 1024],
     counts: [Count; 256],
 }

@@ -1,4 +1,5 @@
-// The text of a trace, written into a lent buffer: the header, and a line for each completed cycle.
+// The text of a trace, written into a lent buffer: the header, and a line for each completed cycle. The buffer and the place in it are two parameters
+// throughout, for speed: a mark that is handed over by reference was slower (docs/SPEED.md).
 #![tactic(auto)]
 
 ghost use Rattle.std.specs.Prelude.{◌≡◌, [], ◌∷◌, ◌++◌, ◌+◌, ◌*◌, ◌/◌, ◌%◌, ◌≤◌, ◌<◌, leb, length};

@@ -26,6 +26,7 @@ fn ended(refusal: Option<Refusal>, cycles: u32, written: usize, after: Record) -
 }
 
 // The room that a piece must find: the header's, if it has one, and 22 bytes for each cycle.
+#[tactic(auto, unfolding(crate::specs::Traces::head))]
 pub fn room(before: u32, budget: u32) -> usize
     ensures { result ≡ room_of before budget }
 {
@@ -78,6 +79,7 @@ fn piece(rec: Record, mem: &mut Bank, text: &mut [u8], before: u32, budget: u32)
 
 // At most `budget` cycles over a lent memory that stands for bank 0, with a line for each in a lent text, `before` cycles having been done. Refused at
 // once by 1, by 2 where `before` and the budget come to more than 1,000,000, and by 3 where the text is too short; on the way by 4 to 7.
+#[tactic(auto, unfolding(crate::specs::Traces::whole_piece))]
 pub fn traced_piece(
     rec: Record,
     mem: &mut [u8],
