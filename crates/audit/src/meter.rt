@@ -49,7 +49,7 @@ pub fn put_day(mem: &mut Memory) {
 }
 
 // Samples with a pulse and without.
-#[derive(Clone, Copy)]
+#[derive(Clone, Copy, Default)]
 pub struct Samples {
     pub pulses: u64,
     pub idle: u64,

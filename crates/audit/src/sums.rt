@@ -57,7 +57,7 @@ impl fmt::Display for Row {
 
 fn add_deliveries(rt: &impl Print, mem: &Memory) -> io::Result<Sums> {
     let mut s = Sums {
-        samples: Samples { pulses: 0, idle: 0 },
+        samples: Samples::default(),
         litres: 0,
         agrees: true,
     };

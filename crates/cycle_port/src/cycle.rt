@@ -19,10 +19,7 @@ pub fn glavorint_edition() -> u32
 fn taken(rec: &[u8]) -> Result<Record, Refusal>
     ensures { result ≡ taken_from (unpacked rec.now) }
 {
-    let Some(r) = unpack(rec) else {
-        return Err(Refusal::Malformed);
-    };
-    Ok(r)
+    unpack(rec).ok_or(Refusal::Malformed)
 }
 
 fn asked(rec: &[u8]) -> Result<Request, Refusal>

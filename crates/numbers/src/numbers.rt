@@ -7,25 +7,18 @@ use cpu::record::number_in;
 use cpu::types::{Refusal, Request};
 use words::one_if;
 
-fn wide(n: u8) -> u64
-    ensures value { result ≡ n }
-    ensures small { result ≤ 255 }
-{
-    n as u64
-}
-
 // What is asked, or why nothing is, in one number.
 pub fn asked_number(a: Result<Request, Refusal>) -> u64
     ensures { result ≡ asked_bits a }
 {
     match a {
         Ok(q) => {
-            let place = (q.addr as u64) + wide(q.byte) * 16_777_216;
+            let place = (q.addr as u64) + u64::from(q.byte) * 16_777_216;
             place
-                + wide(u8::from(q.kind)) * 4_294_967_296
-                + wide(one_if(q.write)) * 1_099_511_627_776
+                + u64::from(u8::from(q.kind)) * 4_294_967_296
+                + u64::from(one_if(q.write)) * 1_099_511_627_776
         }
-        Err(n) => wide(u8::from(n)) * 281_474_976_710_656,
+        Err(n) => u64::from(u8::from(n)) * 281_474_976_710_656,
     }
 }
 
@@ -33,5 +26,5 @@ pub fn asked_number(a: Result<Request, Refusal>) -> u64
 pub fn run_number(refusal: Option<Refusal>, cycles: u32) -> u64
     ensures { result ≡ run_number (number_in refusal) cycles }
 {
-    (cycles as u64) + wide(number_in(refusal)) * 4_294_967_296
+    (cycles as u64) + u64::from(number_in(refusal)) * 4_294_967_296
 }

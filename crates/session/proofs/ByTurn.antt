@@ -1,6 +1,6 @@
 -- A cycle of a session by what it does is the run of one cycle that the definition speaks of.
 use Prim.Native.Nat.{ℕ}
-use Rattle.std.proofs.Common.{Option, Some, None, Result, Ok, Err}
+use Rattle.std.proofs.Common.{Some, None, Result, Ok, Err}
 use mathlib.Core.Path.{◌≡◌, refl, sym, ap, ◌∙◌}
 use mathlib.Core.Bool.{Bool, true, false}
 use mathlib.Core.List.{List}
@@ -9,7 +9,6 @@ use lib.Dec.{eqb}
 use lib.ListN.{length}
 use borrow.Author.Tests.{eqb-true, eqb-false, eq-eqb, ne_eqb}
 use Rattle.words.specs.Words.{pick}
-use Rattle.cpu.specs.Record.{number_of}
 use Rattle.cpu.specs.declared.types.Record.{Record}
 use Rattle.cpu.specs.declared.types.Request.{Request}
 use Rattle.cpu.specs.declared.types.Refusal.{Refusal}
@@ -19,7 +18,6 @@ use Rattle.step.specs.Cycle.{micro_of}
 use Rattle.memory.specs.Turns.{turn_by, cycle_of, store_line, store_of}
 use Rattle.run.specs.Runs.{End, ends, more, whole_run, size}
 use Rattle.run.proofs.Laws.{run_done, run_stop, run_none, accepted, refused_1}
-use Rattle.run.proofs.Counted.{refusal_some}
 use Rattle.session.specs.declared.types.Session.{Session}
 use Rattle.session.specs.declared.types.Stepped.{Stepped}
 use Rattle.session.specs.Sessions.{session_at, stepped, after_run, counted_if, counted, turned_to, cycled_by, memory_by, cycled_over, memory_over}

@@ -1,5 +1,5 @@
 -- What a bench may rely on: a refused step changes nothing, one that isn't refused counts, and two cycles in a row are a run of two.
-use Prim.Native.Nat.{ℕ, zero, suc, ◌+◌, ◌≤◌, ◌<◌}
+use Prim.Native.Nat.{ℕ, zero, suc, min, ◌+◌, ◌≤◌, ◌<◌}
 use Rattle.cpu.specs.declared.types.Request.{Request}
 use Rattle.cpu.specs.declared.types.Refusal.{Refusal}
 use Rattle.std.proofs.Common.{Option, Some, None, Result, Ok, Err}
@@ -9,9 +9,8 @@ use mathlib.Core.List.{List}
 use native.Mathlib.Omega.{arith}
 use lib.Dec.{leb, eqb, ltb}
 use lib.ListN.{length, set, length-set}
-use borrow.Author.Tests.{ltb-true, ltb-false, eqb-true, eqb-false, lt-ltb, eq-eqb, ne_eqb}
+use borrow.Author.Tests.{leb-true, leb-false, ltb-true, ltb-false, eqb-true, eqb-false, lt-ltb}
 use Rattle.words.specs.Words.{pick}
-use Rattle.cpu.specs.Record.{number_of}
 use Rattle.cpu.specs.declared.types.Record.{Record}
 use Rattle.cpu.specs.declared.types.Refusal.TheVariants.{Memory, Budget}
 use Rattle.step.specs.Cycle.{answer_of}
@@ -58,6 +57,13 @@ pub counted_full : (k n : ℕ) → n ≤ top → top ≤ n + k → counted_on k 
 unfolding counted_on
 counted_full zero n h g = omega (arith, h, g)
 counted_full (suc k) n h g = let i = never_wraps n h in counted_full k (counted n) i.1 (grown n k (ltb n top) refl g)
+
+by_fit : (k n : ℕ) (b : Bool) → leb (n + k) top ≡ b → n ≤ top → counted_on k n ≡ min (n + k) top
+by_fit k n true e h = let f = leb-true (n + k) top e in counted_sum k n f ∙ omega (arith, f)
+by_fit k n false e h = let f = leb-false (n + k) top e in counted_full k n h (omega (arith, f)) ∙ omega (arith, f)
+
+pub counted_least : (k n : ℕ) → n ≤ top → counted_on k n ≡ min (n + k) top
+counted_least k n h = by_fit k n (leb (n + k) top) refl h
 
 -- ---- by an answered byte
 

@@ -9,14 +9,11 @@ use cycles::types::Micro;
 use memory::turn::turn;
 use step::{answer, next_micro, request};
 
-// The greatest count.
-const TOP: u64 = 18_446_744_073_709_551_615;
-
 // A session at a record, with no cycle done.
 pub fn start(at: Record) -> Session
     ensures { result ≡ started at }
 {
-    Session { at: at, cycles: 0 }
+    Session { at, cycles: 0 }
 }
 
 // What the session asks of the bus, or the refusal: 4, 5 or 6.
@@ -31,15 +28,14 @@ pub fn asking(s: Session) -> Result<Request, Refusal>
 fn count(n: u64) -> u64
     ensures { result ≡ counted n }
 {
-    if n < TOP { n + 1 } else { n }
+    count_on(n, 1)
 }
 
 // So many more, likewise.
 pub fn count_on(n: u64, more: u32) -> u64
     ensures { result ≡ counted_on more n }
 {
-    let k = more as u64;
-    if n <= TOP - k { n + k } else { TOP }
+    n.saturating_add(u64::from(more))
 }
 
 // The session one cycle on.

@@ -50,12 +50,8 @@ fn session_of(bytes: &[u8]) -> Option<Session>
     if bytes.len() != 40 {
         return None;
     }
-    let end = 32;
-    let u = unpack(&bytes[..end]);
-    match u {
-        Some(r) => Some(session_at(r, count_at(bytes))),
-        None => None,
-    }
+    let at = unpack(&bytes[..32])?;
+    Some(session_at(at, count_at(bytes)))
 }
 
 // A session's bytes in the place of another's.

@@ -37,8 +37,7 @@ pub fn lay(bytes: &mut [u8], k: usize, n: u32)
     ensures { bytes.new ≡ laid bytes.old k n }
 {
     let at = place(k);
-    let low = (n % 256) as u8;
-    let high = (n / 256 % 256) as u8;
+    let [low, high, ..] = n.to_le_bytes();
     if digits(k) == 4 {
         put(bytes, at, &[low, high]);
     } else {

@@ -8,7 +8,7 @@ use verdict::judge::{judge, progress};
 use verdict::report::{malformed, opcode_total, total};
 
 // The cases of an opcode.
-#[derive(Clone, Copy)]
+#[derive(Clone, Copy, Default)]
 struct Count {
     replayed: u64,
     differ: u64,
@@ -28,16 +28,12 @@ pub struct List<'a, O: Print, E: Print + IsTerminal> {
 
 impl<'a, O: Print, E: Print + IsTerminal> List<'a, O, E> {
     pub fn new(out: &'a O, err: &'a E) -> List<'a, O, E> {
-        let none = Count {
-            replayed: 0,
-            differ: 0,
-        };
         List {
             out,
             err,
             tally: Tally::start(),
             room: [0; 1024],
-            counts: [none; 256],
+            counts: [Count::default(); 256],
         }
     }
 

@@ -9,23 +9,24 @@ pub returns-then-bytes-ne40 : goal.returns-then-bytes-ne40
 unfolding opened
 returns-then-bytes-ne40 c = simp (ne_eqb _ _ c.if-bytes-ne40.true)
 
-pub slice_bounds-unpack-end : goal.slice_bounds-unpack-end
-slice_bounds-unpack-end c = sym (length-take-le 32 c.args.bytes.now (omega arith))
-
-pub returns-in-Some : goal.returns-in-Some
+pub returns-in_err-at : goal.returns-in_err-at
 unfolding opened
-returns-in-Some c = simp (
+returns-in_err-at c = simp (
+  c.from_residual.ensures,
+  c.in_err-at.was,
+  ← c.unpack.ensures,
+  eq-eqb _ _ c.if-bytes-ne40.false,
+)
+
+pub returns : goal.returns
+unfolding opened
+returns c = simp (
   c.session_at.ensures,
   c.count_at.ensures,
-  c.in-Some.is,
-  ← c.unpack-u.ensures,
+  c.in_ok-at.was,
+  ← c.unpack.ensures,
   eq-eqb _ _ c.if-bytes-ne40.false,
 )
 
-pub returns-in-None : goal.returns-in-None
-unfolding opened
-returns-in-None c = simp (
-  c.in-None.is,
-  ← c.unpack-u.ensures,
-  eq-eqb _ _ c.if-bytes-ne40.false,
-)
+pub slice_bounds-unpack-end : goal.slice_bounds-unpack-end
+slice_bounds-unpack-end c = sym (length-take-le 32 c.args.bytes.now (omega arith))
