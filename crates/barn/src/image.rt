@@ -30,19 +30,28 @@ fn read_full(file: &mut impl Read, mem: &mut [u8]) -> (usize, io::Result<()>)
     (done, Ok(()))
 }
 
+// Why a file couldn't be read: what the last read says, or else what ended those before it. 0 is the system's number for no reason yet.
+fn reason(last: io::Result<usize>, end: io::Result<()>) -> io::Error {
+    match (last, end) {
+        (Err(why), _) => why,
+        (Ok(_), Err(why)) => why,
+        (Ok(_), Ok(())) => io::Error::from_raw_os_error(0),
+    }
+}
+
 // How many bytes a file has, or none for any that are too many. One read after the bytes tells whether there are more.
 fn read_all(file: &mut impl Read, mem: &mut [u8; 65536]) -> io::Result<Option<usize>> {
     let (got, end) = read_full(file, mem);
     let mut one = [0u8; 1];
-    let more = file.read(&mut one)? > 0;
-    match size(got, Some(more)) {
+    let last = file.read(&mut one);
+    let more = match &last {
+        Ok(n) => Some(*n > 0),
+        Err(_) => None,
+    };
+    match size(got, more) {
         Ok(n) => Ok(Some(n)),
         Err(NoImage::TooLong) => Ok(None),
-        // 0 is the system's number for no reason yet
-        Err(NoImage::Unread) => match end {
-            Ok(()) => Err(io::Error::from_raw_os_error(0)),
-            Err(why) => Err(why),
-        },
+        Err(NoImage::Unread) => Err(reason(last, end)),
     }
 }
 

@@ -1,9 +1,13 @@
 // Why the system couldn't do what was asked of it.
+ghost use Rattle.std.specs.Prelude.{◌≤◌, length};
+
 use std::io;
 use std::io::{Cursor, Write};
 
 // How much of a reason's text is the system's own: std adds ` (os error 2)`, or another number.
-fn own(text: &[u8]) -> &[u8] {
+fn own(text: &[u8]) -> &[u8]
+    ensures { length result.now ≤ length text.now }
+{
     let number = b" (os error ".as_slice();
     match text.windows(number.len()).position(|part| part == number) {
         Some(at) => &text[..at],

@@ -1,7 +1,7 @@
 // The byte is known, and the answer, before anything is stored: a refused cycle leaves the memory as it was.
 ghost use Rattle.std.specs.Prelude.{◌≡◌, ◌<◌, length};
 ghost use Rattle.cycles.specs.declared.types.Micro.TheVariants.{Fetch, Held};
-ghost use Rattle.memory.specs.Turns.{bus_byte, crossed, refusal_of, store_line, store_of, turn_by};
+ghost use Rattle.memory.specs.Turns.{bus_byte, crossed, refusal_of, store_line, stopped_by, store_of, turn_by};
 
 use act::arrive::act;
 use bus::{ask, code, read};
@@ -93,5 +93,15 @@ pub fn turn(m: Micro, r: Record, mem: &mut [u8]) -> Result<(Request, Record), Re
         Micro::Refuse(n) => Err(n),
         Micro::Fetch => fetch(r, mem),
         Micro::Held(q, k, c, d, o) => carry_out(q, k, c, d, o, r, mem),
+    }
+}
+
+// Document 01's number of a turn: 0, or its refusal's.
+pub fn refused_by(t: Result<(Request, Record), Refusal>) -> u8
+    ensures { result ≡ stopped_by t }
+{
+    match t {
+        Ok(_) => 0,
+        Err(n) => u8::from(n),
     }
 }

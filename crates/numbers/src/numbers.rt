@@ -22,9 +22,16 @@ pub fn asked_number(a: Result<Request, Refusal>) -> u64
     }
 }
 
-// The cycles of a run, and its refusal's number or 0, in one number.
-pub fn run_number(refusal: Option<Refusal>, cycles: u32) -> u64
+// The cycles of a run and its refusal's number, or 0, in one number.
+pub fn run_number(refusal: u8, cycles: u32) -> u64
+    ensures { result ≡ run_number refusal cycles }
+{
+    (cycles as u64) + u64::from(refusal) * 4_294_967_296
+}
+
+// The same by the refusal, if there was one.
+pub fn ended_number(refusal: Option<Refusal>, cycles: u32) -> u64
     ensures { result ≡ run_number (number_in refusal) cycles }
 {
-    (cycles as u64) + u64::from(number_in(refusal)) * 4_294_967_296
+    run_number(number_in(refusal), cycles)
 }

@@ -1,21 +1,29 @@
--- Bytes put over others.
-use Prim.Native.Nat.{ℕ, ◌+◌, ◌-◌, ◌≤◌, ◌<◌}
-use mathlib.Core.Path.{◌≡◌, sym}
-use mathlib.Core.List.{List, ◌++◌, append-nil, append_assoc}
-use borrow.Rule.Slice.PartMut.{put_mid}
-use Rattle.std.proofs.lemmas.List.{drop-drop}
+-- Bytes put over others, one after the other.
+use Prim.Native.Nat.{ℕ, zero, suc, ◌+◌, ◌≤◌, ◌<◌}
+use mathlib.Core.Path.{◌≡◌, ◌∙◌}
+use mathlib.Core.List.{List, [], ◌∷◌, ◌++◌, append-nil}
 use native.Mathlib.Omega.{arith}
-use native.Mathlib.Nat.{zero-add}
+use native.Mathlib.Nat.{add-zero, zero-add, not-suc-le-zero}
+use native.Mathlib.Numerals.{add-one}
 use borrow.Author.Tests.{le-leb, lt-leb}
-use lib.ListN.{length, take, drop, drop_of_length-le, length-append, length-drop}
-use lib.Seq.{sets-eq, take_at}
+use lib.ListN.{length, set, take, drop, get_or, drop_of_length-le, length-append, length-drop}
+use lib.Seq.{sets, sets-eq, take-length, take_at}
 use Rattle.packed.specs.Packed.{placed}
 
--- bytes that were copied over a part of t
-pub placed_part : (s t : List ℕ) (at : ℕ) (x : List ℕ) → x ≡ s → at + length s ≤ length t → put_mid at (at + length s - at) t x ≡ placed t at s
-placed_part s t at x e h =
-    let n : at + length s - at ≡ length s = omega arith in
-    rw (e, n, drop-drop (length s) at t, le-leb _ _ h, sets-eq s t at h) (sym (append_assoc (take at t) s _))
+sets_suc : (s t : List ℕ) (at i : ℕ) → i < length s → set (sets t at (take i s)) (at + i) (get_or s i 0) ≡ sets t at (take (suc i) s)
+sets_suc [] t at i h = absurd (not-suc-le-zero h)
+sets_suc (a ∷ s) t at zero h = rw (add-zero at)
+sets_suc (a ∷ s) t at (suc i) h =
+    let e : at + suc i ≡ suc at + i = omega arith in
+    rw e (sets_suc s (set t at a) (suc at) i (omega arith))
+
+-- one byte more, after i of them
+pub sets_next : (s t t₁ : List ℕ) (at i : ℕ) → i < length s → t₁ ≡ sets t at (take i s) → set t₁ (at + i) (get_or s i 0) ≡ sets t at (take (i + 1) s)
+sets_next s t t₁ at i h e = rw (e, add-one i) (sets_suc s t at i h)
+
+-- all of them, with room
+pub placed_all : (s t t₁ : List ℕ) (at i : ℕ) → i ≡ length s → at + length s ≤ length t → t₁ ≡ sets t at (take i s) → t₁ ≡ placed t at s
+placed_all s t t₁ at i h k e = e ∙ rw (h, take-length s, le-leb _ _ k)
 
 pub placed_none : (s t : List ℕ) (at : ℕ) → length t < at + length s → t ≡ placed t at s
 placed_none s t at h = rw (lt-leb _ _ h)

@@ -191,5 +191,7 @@ pub fn put(bytes: &mut [u8], at: usize, src: &[u8])
     if bytes.len() - size < at {
         return;
     }
-    bytes[at..at + size].copy_from_slice(src);
+    for i in 0..size {
+        bytes[at + i] = src[i];
+    }
 }

@@ -1,5 +1,5 @@
 -- What the command's programs reckon: places of arguments, sizes of images and pieces, the numbers of runs, typed words.
-use Rattle.std.specs.Prelude.{ℕ, ◌+◌, ◌-◌, ◌/◌, ◌%◌, ◌^◌, Bool, true, false, List, ◌==◌, nat_lt, Option, Some, None, Result, Ok, Err}
+use Rattle.std.specs.Prelude.{codes, [], ℕ, ◌+◌, ◌-◌, ◌/◌, ◌%◌, ◌^◌, Bool, true, false, List, ◌==◌, nat_lt, Option, Some, None, Result, Ok, Err}
 use Rattle.std.specs.Option.{option_or}
 use Rattle.pails.specs.declared.image.NoImage.{NoImage}
 use Rattle.pails.specs.declared.image.NoImage.TheVariants.{TooLong, Unread}
@@ -51,6 +51,17 @@ left_of left size = pick (size == 0) 0 (left - size)
 abbrev pub refusal_of : ℕ → Option Refusal
 refusal_of n = pick (n == 0) None (Some (record { 0 = n }))
 
+-- document 01's words for each
+abbrev pub words_of : (number : ℕ) → List ℕ
+words_of n =
+    pick (n == 1) (codes "the memory isn't 65,536 bytes")
+    (pick (n == 2) (codes "the budget is above 1,000,000 cycles")
+    (pick (n == 3) (codes "the text buffer is too short")
+    (pick (n == 4) (codes "the record isn't well formed")
+    (pick (n == 5) (codes "the opcode held, or just fetched, isn't listed")
+    (pick (n == 6) (codes "the held opcode has no such cycle")
+    (pick (n == 7) (codes "a request outside bank 0") []))))))
+
 abbrev pub run_of : ℕ → Ran
 run_of n = record { cycles = n % 4294967296; refusal = refusal_of (n / 4294967296 % 256) }
 
@@ -59,6 +70,10 @@ trace_of n = record { cycles = n % 16777216; refusal = refusal_of (n / 720575940
 
 abbrev pub joined_of : (before next : Ran) → Ran
 joined_of before next = record { cycles = (before.cycles + next.cycles) % 2 ^ 32; refusal = option_or before.refusal next.refusal }
+
+-- the same of glavorint_run's numbers themselves
+abbrev pub sum_of : (before next : ℕ) → ℕ
+sum_of before next = (before + next) % 2 ^ 64
 
 abbrev pub written_of : ℕ → ℕ
 written_of n = n / 16777216 % 4294967296

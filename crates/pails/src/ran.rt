@@ -1,6 +1,6 @@
 // How a run ended, by the numbers that include/glavorint.h hands over.
 ghost use Rattle.std.specs.Prelude.{◌≡◌, ◌/◌, ◌%◌};
-ghost use Rattle.pails.specs.Pails.{refusal_of, run_of, trace_of, joined_of, written_of, spelt_of};
+ghost use Rattle.pails.specs.Pails.{refusal_of, run_of, trace_of, joined_of, sum_of, written_of, spelt_of};
 
 use std::fmt;
 
@@ -23,17 +23,22 @@ impl Refusal {
 
 // Document 01's words for each.
 impl fmt::Display for Refusal {
+    ghost use Rattle.std.specs.Prelude.{Some};
+    ghost use Rattle.pails.specs.Pails.{words_of};
+
+    ghost output = { λ r. Some (words_of r.0) };
+
     fn fmt<W: fmt::Write>(&self, f: &mut fmt::Formatter<W>) -> fmt::Result {
-        f.write_str(match self.0 {
-            1 => "the memory isn't 65,536 bytes",
-            2 => "the budget is above 1,000,000 cycles",
-            3 => "the text buffer is too short",
-            4 => "the record isn't well formed",
-            5 => "the opcode held, or just fetched, isn't listed",
-            6 => "the held opcode has no such cycle",
-            7 => "a request outside bank 0",
-            _ => "",
-        })
+        match self.0 {
+            1 => f.write_str("the memory isn't 65,536 bytes"),
+            2 => f.write_str("the budget is above 1,000,000 cycles"),
+            3 => f.write_str("the text buffer is too short"),
+            4 => f.write_str("the record isn't well formed"),
+            5 => f.write_str("the opcode held, or just fetched, isn't listed"),
+            6 => f.write_str("the held opcode has no such cycle"),
+            7 => f.write_str("a request outside bank 0"),
+            _ => f.write_str(""),
+        }
     }
 }
 
@@ -80,6 +85,13 @@ impl Ran {
 pub struct Untold<E> {
     pub cycles: u32,
     pub why: E,
+}
+
+// glavorint_run's numbers of a run that wasn't refused and of the piece that went on from it, joined: their sum.
+pub fn joined(before: u64, next: u64) -> u64
+    ensures { result ≡ sum_of before next }
+{
+    before.wrapping_add(next)
 }
 
 // The bytes of text that a piece of a trace has, by glavorint_trace's number.

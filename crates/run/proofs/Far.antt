@@ -10,7 +10,7 @@ use Rattle.words.specs.Words.{pick}
 use Rattle.cpu.specs.Record.{is_move}
 use Rattle.cpu.specs.declared.types.Record.{Record}
 use Rattle.stride.specs.declared.types.Stretch.{Stretch}
-use Rattle.stride.specs.Strides.{fresh, whole, stretch}
+use Rattle.stride.specs.Strides.{fresh, whole, stretch, stride_of, stride_mem}
 use Rattle.haul.specs.Hauls.{between, near, hauled, haul_of, haul_mem}
 use Rattle.run.specs.Far.{far, strides_far, hauls_far, ahead_far}
 
@@ -96,6 +96,16 @@ far_fresh b r m e = ap (λ (t : Bool). pick t (strides_far b r m) (hauls_far b r
 
 pub far_not_fresh : (b : ℕ) (r : Record) (m : List ℕ) → fresh r ≡ false → ahead_far b r m ≡ hauls_far b r m
 far_not_fresh b r m e = ap (λ (t : Bool). pick t (strides_far b r m) (hauls_far b r m)) e
+
+-- ---- nor where no more is left than either asks for
+none_short : (t : Bool) (x y : ℕ) → x ≡ 0 → y ≡ 0 → pick t x y ≡ 0
+none_short true x y e f = e
+none_short false x y e f = f
+
+pub far_short : (b : ℕ) (r : Record) (m : List ℕ) → b ≤ 7 → ahead_far b r m ≡ 0
+far_short b r m h =
+    none_short (fresh r) (strides_far b r m) (hauls_far b r m)
+    (far_end stride_of stride_mem 7 b b r m h) (far_end haul_of haul_mem 8 b b r m (omega (arith, h)))
 
 -- ---- inside an instruction nothing goes
 and_false : (a b : Bool) → (a && (b && false)) ≡ false

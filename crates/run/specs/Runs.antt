@@ -38,14 +38,14 @@ unfoldable pub whole_run : ℕ → Record → List ℕ → End
 whole_run b r m = pick (eqb (length m) size) (pick (leb b most) (run_of b r m) (ends (Some Budget) r m)) (ends (Some Memory) r m)
 
 -- what a run answers
-abbrev pub outcome : (refusal : Option Refusal) (cycles : ℕ) → Record → Outcome
+abbrev pub outcome : {R : Type 0} → (refusal : R) (cycles : ℕ) → Record → Outcome R
 outcome n c r = record { refusal = n; cycles = c; after = r }
 
-abbrev pub told : End → Outcome
+abbrev pub told : End → Outcome (Option Refusal)
 told e = outcome e.refusal (length e.lines) e.rec
 
 -- a record that isn't well formed, asked for so many cycles
-abbrev pub malformed : ℕ → Record → Outcome
+abbrev pub malformed : ℕ → Record → Outcome (Option Refusal)
 malformed b r = outcome (pick (eqb b 0) None (Some Malformed)) 0 r
 
 -- a run, and the one that goes on where it ended

@@ -14,8 +14,8 @@ use step::well_micro;
 use stride::stride::{cleared, is_fresh, stretch_of};
 use stride::types::Stretch;
 
-// How a run ended: its refusal if it was refused, the cycles that were completed, and the record after them.
-pub fn ended(refusal: Option<Refusal>, cycles: u32, after: Record) -> Outcome
+// How a run ended: its refusal if it was refused, as the caller tells of it, the cycles that were completed, and the record after them.
+pub fn ended<R>(refusal: R, cycles: u32, after: Record) -> Outcome<R>
     ensures { result ≡ outcome refusal cycles after }
 {
     Outcome {
@@ -45,7 +45,8 @@ fn paces<P: Pace>(r: Record, mem: &mut Bank, budget: u32) -> Stretch
     stretch_of(budget - left, at)
 }
 
-// Whole instructions, or bytes of a move, as far as they go: nowhere inside an instruction.
+// Whole instructions, or bytes of a move, as far as they go: nowhere inside an instruction, nor with seven cycles left or fewer, where neither begins
+// and a record that went through their loop for nothing would make a short run a tenth slower (docs/SPEED.md).
 fn ahead(r: Record, mem: &mut Bank, budget: u32) -> Stretch
     requires { (well_formed r ≡ true) × (0 < budget) }
     ensures goes { Goes r mem.old result mem.new }
@@ -53,6 +54,9 @@ fn ahead(r: Record, mem: &mut Bank, budget: u32) -> Stretch
     ensures far { result.cycles ≡ ahead_far budget r mem.old }
 {
     if r.tcu != 0 {
+        return stretch_of(0, r);
+    }
+    if budget <= 7 {
         return stretch_of(0, r);
     }
     if is_fresh(r) {

@@ -3,7 +3,7 @@ ghost use Rattle.std.specs.Prelude.{◌≡◌};
 ghost use Rattle.run_port.specs.Port.{unfit, run_bytes};
 
 use cpu::types::Refusal;
-use numbers::numbers::run_number;
+use numbers::numbers::ended_number;
 use packed::bytes::{pack, put, unpack};
 use run::run::run;
 
@@ -28,11 +28,11 @@ pub fn glavorint_run(rec: &mut [u8], mem: &mut [u8], budget: u32) -> u64
 {
     let u = unpack(rec);
     let Some(r) = u else {
-        return run_number(Some(unfit_by(mem.len(), budget)), 0);
+        return ended_number(Some(unfit_by(mem.len(), budget)), 0);
     };
     let o = run(r, mem, budget);
     let after = o.after;
     let bytes = pack(after);
     put(rec, 0, &bytes);
-    run_number(o.refusal, o.cycles)
+    ended_number(o.refusal, o.cycles)
 }

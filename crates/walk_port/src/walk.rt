@@ -4,7 +4,7 @@ ghost use Rattle.session_port.specs.Port.{session_cycle, session_cycles};
 ghost use Rattle.walk_port.specs.Walk.{cycles_number};
 
 use cpu::record::number_in;
-use numbers::numbers::run_number;
+use numbers::numbers::ended_number;
 use session_port::sessions::cycles_of;
 
 // The session after a cycle over a lent memory.
@@ -24,5 +24,5 @@ pub fn glavorint_session_cycles(session: &mut [u8], mem: &mut [u8], count: u32) 
         × (mem.new ≡ (session_cycles session.old mem.old count).mem) }
 {
     let t = cycles_of(session, mem, count);
-    run_number(t.refusal, t.cycles)
+    ended_number(t.refusal, t.cycles)
 }

@@ -1,4 +1,5 @@
 use mathlib.Core.Path.{sym, subst, ap, ◌∙◌}
+use native.Mathlib.Omega.{arith}
 use Rattle.cpu.specs.declared.types.Record.{Record}
 use Rattle.cpu.specs.Record.{well_formed}
 use Rattle.stride.specs.Strides.{fresh}
@@ -6,7 +7,7 @@ use Rattle.run.specs.Passes.{Goes}
 use Rattle.run.specs.Far.{strides_far}
 use Rattle.run.proofs.Whole.{passes_none}
 use Rattle.run.proofs.Stretches.{cleared_is}
-use Rattle.run.proofs.Far.{far_inside, far_fresh}
+use Rattle.run.proofs.Far.{far_inside, far_short, far_fresh}
 use Rattle.run.proofs.run.ahead.Goals as goal
 
 pub returns-then-r-ne0-clause-goes : goal.returns-then-r-ne0-clause-goes
@@ -14,6 +15,14 @@ returns-then-r-ne0-clause-goes c = rw c.stretch_of.ensures ((passes_none c.args.
 
 pub returns-then-r-ne0-clause-far : goal.returns-then-r-ne0-clause-far
 returns-then-r-ne0-clause-far c = rw c.stretch_of.ensures (sym (far_inside c.args.r c.if-r-ne0.true c.args.budget c.args.mem.now))
+
+pub returns-then-budget-le7-clause-goes : goal.returns-then-budget-le7-clause-goes
+returns-then-budget-le7-clause-goes c = rw c.stretch_of-then-budget-le7.ensures ((passes_none c.args.r c.args.mem.now, c.requires.0))
+
+pub returns-then-budget-le7-clause-far : goal.returns-then-budget-le7-clause-far
+returns-then-budget-le7-clause-far c =
+    rw c.stretch_of-then-budget-le7.ensures
+    (sym (far_short c.args.budget c.args.r c.args.mem.now (omega (arith, c.if-budget-le7.true))))
 
 pub paces-requires : goal.paces-requires
 paces-requires c =
